@@ -1,0 +1,46 @@
+-- Checks: tests in order, each with the number that it refuses by.
+use Prim.Native.Nat.{ℕ, _%_, _/_}
+use mathlib.Core.Path.{_≡_, refl}
+use mathlib.Core.List.{List, [], _∷_, _++_}
+use mathlib.Core.Bool.{Bool, true, false, not}
+use mathlib.Core.Option.{Option, none, some}
+use lib.ListN.{length}
+use lib.Dec.{ltb, eqb}
+use Rattle.lists.specs.Search.{allBelow}
+use Rattle.graph.specs.Report.{Report, accepted, refused}
+
+-- A test that refuses by a number where it holds.
+pub data Check : Type 0 where
+  _gives_ : Bool → ℕ → Check
+
+infixl 20 _gives_
+
+-- "Checks run over the whole input, in the order given": the number of the first that refuses.
+unfoldable pub firstRefusal : List Check → Option ℕ
+firstRefusal [] = none
+firstRefusal ((b gives k) ∷ checks) = elim b [ true ↦ some k | false ↦ firstRefusal checks ]
+
+-- Refused by the first check that refuses, or else accepted with the values.
+unfoldable pub answered : {A : Type 0} → List Check → A → Report A
+answered checks values = elim (firstRefusal checks) [ none ↦ accepted values | some k ↦ refused k ]
+
+-- What a lent slice holds afterwards: as before where a check refuses.
+unfoldable pub written : {A : Type 0} → List Check → A → A → A
+written checks before after = elim (firstRefusal checks) [ none ↦ after | some k ↦ before ]
+
+-- "1, n above 512. 2, the end list has odd length. 3, it has more than 8,192 numbers. 4, an end is n or more."
+unfoldable pub graphChecks : ℕ → List ℕ → List Check
+graphChecks n ends =
+    (ltb 512 n gives 1)
+    ∷ (eqb (length ends % 2) 1 gives 2)
+    ∷ (ltb 8192 (length ends) gives 3)
+    ∷ (not (allBelow n ends) gives 4)
+    ∷ []
+
+-- "5 unless" a slice has this length.
+abbrev pub lengthCheck : ℕ → ℕ → Check
+lengthCheck length wanted = not (eqb length wanted) gives 5
+
+-- The graph checks report n and m.
+unfoldable pub checkGraph : ℕ → List ℕ → Report (ℕ × ℕ)
+checkGraph n ends = answered (graphChecks n ends) (n, length ends / 2)

@@ -1,0 +1,9 @@
+-- Graphs: reports and checks, ends and incidence order, the incidence table, colours.
+pub mod Report
+pub mod Check
+pub mod CheckLaws
+pub mod Edges
+pub mod EdgeLaws
+pub mod Table
+pub mod TableLaws
+pub mod Color

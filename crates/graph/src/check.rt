@@ -1,0 +1,40 @@
+// The graph checks.
+ghost use mathlib.Core.Path.{_≡_};
+ghost use Rattle.lists.specs.Search.{allBelow};
+ghost use Rattle.graph.specs.Report.{reportOfChecked};
+ghost use Rattle.graph.specs.Check.{checkGraph};
+use crate::{Checked, Graph, Refusal};
+
+// Whether each end is below n.
+fn all_below(n: usize, ends: &[u16]) -> bool
+    ensures { λ r. ⌜ r ≡ allBelow n (now (ends .entry)) ⌝ }
+{
+    let mut i = 0;
+    while i < ends.len() {
+        if n <= ends[i] as usize {
+            return false;
+        }
+        i += 1;
+    }
+    true
+}
+
+// The graph checks, in order, over the whole input.
+pub fn check_graph(n: usize, ends: &[u16]) -> Checked
+    ensures { λ r. ⌜ reportOfChecked r ≡ checkGraph n (now (ends .entry)) ⌝ }
+{
+    if n > Graph::MAX_NODES {
+        return Checked::Refused(Refusal::TooManyNodes);
+    }
+    if ends.len() % 2 == 1 {
+        return Checked::Refused(Refusal::OddEnds);
+    }
+    if ends.len() > 2 * Graph::MAX_EDGES {
+        return Checked::Refused(Refusal::TooManyEnds);
+    }
+    if all_below(n, ends) {
+        Checked::Accepted(Graph::new(n, ends.len() / 2))
+    } else {
+        Checked::Refused(Refusal::EndOutside)
+    }
+}

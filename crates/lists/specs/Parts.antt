@@ -1,0 +1,43 @@
+-- Parts of a list: what a store outside a part, or right before it, does to the part.
+use Prim.Native.Nat.{ℕ, zero, suc, _+_, _-_, _≤_, _<_}
+use mathlib.Core.Path.{_≡_, refl, sym, ap, _∙_}
+use mathlib.Core.Logic.{_⊎_, inl, inr}
+use mathlib.Core.List.{List, [], _∷_, _++_}
+use native.Mathlib.Omega.{arith}
+use lib.ListN.{length, getD, set, take, drop, length-set, length-take, length-drop}
+use lib.Seq.{drop-cons, drop-set-lt, drop-set-add, take-set-le, getD-set-same, take-length, length-take-le, take-add, drop-drop}
+
+-- The numbers from place a up to, not including, place e: Rattle's `&l[a..e]`.
+abbrev pub part : List ℕ → ℕ → ℕ → List ℕ
+part l a e = take (e - a) (drop a l)
+
+pub part-empty : (l : List ℕ) (a : ℕ) → part l a a ≡ []
+part-empty l a = let z : a - a ≡ 0 = omega arith in rw z
+
+-- A store before the part, or behind it, does not change it.
+pub part-set-outside : (l : List ℕ) (a e p x : ℕ) → (p < a) ⊎ (e ≤ p) → part (set l p x) a e ≡ part l a e
+part-set-outside l a e p x (inl h) = rw (drop-set-lt a l p x h)
+part-set-outside l a e p x (inr h) = go (e - a) refl
+  where
+    go : (n : ℕ) → e - a ≡ n → part (set l p x) a e ≡ part l a e
+    go zero z = rw z
+    go (suc n) z =
+        let q : p ≡ a + (p - a) = omega arith in
+        ap (λ (i : ℕ). take (e - a) (drop a (set l i x))) q ∙ ap (take (e - a)) (drop-set-add a l (p - a) x) ∙ take-set-le (e - a) (drop a l) (p - a) x (omega arith)
+
+-- A store right before the part puts the number in front of it.
+pub part-set-before : (l : List ℕ) (a e x : ℕ) → suc a ≤ e → a < length l → part (set l a x) a e ≡ x ∷ part l (suc a) e
+part-set-before l a e x h b =
+    let n : e - a ≡ suc (e - suc a) = omega arith in
+    let c = drop-cons (set l a x) a 0 (rw (length-set l a x) b) in
+    rw (n, c, getD-set-same l a x 0 b, drop-set-lt (suc a) l a x (omega arith))
+
+-- Two parts that meet.
+pub part-join : (l : List ℕ) (a b c : ℕ) → a ≤ b → b ≤ c → part l a b ++ part l b c ≡ part l a c
+part-join l a b c h k =
+    let n : c - a ≡ (b - a) + (c - b) = omega arith in
+    let p : a + (b - a) ≡ b = omega arith in
+    rw (n, take-add (b - a) (c - b) (drop a l), drop-drop (b - a) a l, p)
+
+pub length-part : (l : List ℕ) (a e : ℕ) → a ≤ e → e ≤ length l → length (part l a e) ≡ e - a
+length-part l a e h k = length-take-le (e - a) (drop a l) (rw (length-drop a l) (omega arith))

@@ -1,0 +1,59 @@
+-- Searching: whether every number of a list passes a test, and whether some number below n does.
+use Prim.Native.Nat.{ℕ, zero, suc, _+_, _≤_, _<_}
+use mathlib.Core.Path.{_≡_, refl, sym}
+use mathlib.Core.Logic.{_⊎_, inl, inr}
+use mathlib.Core.List.{List, [], _∷_}
+use mathlib.Core.Bool.{Bool, true, false, _&&_, _||_, false≢true}
+use native.Mathlib.Omega.{arith}
+use native.Mathlib.Numerals.{add-one}
+use native.Mathlib.Nat.{not-suc-le-zero}
+use lib.ListN.{length, getD, drop, drop-of-length-le}
+use lib.Seq.{drop-cons}
+use lib.Dec.{ltb}
+use borrow.Author.Tests.{lt-ltb, le-ltb, ltb-true}
+use Rattle.lists.specs.Tests.{by-test, dec-eq, and-true, or-false}
+
+-- Whether each number is below n.
+unfoldable pub allBelow : ℕ → List ℕ → Bool
+allBelow n [] = true
+allBelow n (x ∷ xs) = ltb x n && allBelow n xs
+
+pub all-below-at : (n : ℕ) (xs : List ℕ) → allBelow n xs ≡ true → (i : ℕ) → i < length xs → getD xs i 0 < n
+unfolding allBelow
+all-below-at n [] e i h = absurd (not-suc-le-zero h)
+all-below-at n (x ∷ xs) e zero h = ltb-true x n (and-true (ltb x n) (allBelow n xs) e .0)
+all-below-at n (x ∷ xs) e (suc i) h = all-below-at n xs (and-true (ltb x n) (allBelow n xs) e .1) i (omega arith)
+
+-- A search from the front: a number below n does not decide, one that is n or more does, and so does the end.
+pub all-below-next : (n : ℕ) (s : List ℕ) (i : ℕ) {r : Bool} → allBelow n (drop i s) ≡ r → i < length s → getD s i 0 < n → allBelow n (drop (i + 1) s) ≡ r
+unfolding allBelow
+all-below-next n s i e h b = simp (add-one) (simp (drop-cons s i 0 h, lt-ltb _ _ b) at e)
+
+pub all-below-broken : (n : ℕ) (s : List ℕ) (i : ℕ) {r : Bool} → allBelow n (drop i s) ≡ r → i < length s → n ≤ getD s i 0 → false ≡ r
+unfolding allBelow
+all-below-broken n s i e h b = simp (drop-cons s i 0 h, le-ltb _ _ b) at e
+
+pub all-below-end : (n : ℕ) (s : List ℕ) (i : ℕ) {r : Bool} → allBelow n (drop i s) ≡ r → length s ≤ i → true ≡ r
+unfolding allBelow
+all-below-end n s i e h = simp (drop-of-length-le s h) at e
+
+-- Whether some number below n passes the test.
+unfoldable pub any : (ℕ → Bool) → ℕ → Bool
+any t zero = false
+any t (suc n) = t n || any t n
+
+pub any-false : (t : ℕ → Bool) (n : ℕ) → any t n ≡ false → (k : ℕ) → k < n → t k ≡ false
+unfolding any
+any-false t zero e k h = absurd (not-suc-le-zero h)
+any-false t (suc n) e k h =
+    let r = or-false (t n) (any t n) e in
+    elim (dec-eq k n) [ inl p ↦ rw p (r .0) | inr p ↦ any-false t n (r .1) k (omega arith) ]
+
+pub any-true : (t : ℕ → Bool) (n : ℕ) → any t n ≡ true → (k : ℕ) × (k < n) × (t k ≡ true)
+unfolding any
+any-true t zero e = absurd (false≢true e)
+any-true t (suc n) e = go (any-true t n) (t n) refl
+  where
+    go : (any t n ≡ true → (k : ℕ) × (k < n) × (t k ≡ true)) → (b : Bool) → t n ≡ b → (k : ℕ) × (k < suc n) × (t k ≡ true)
+    go rec true p = (n, omega arith, p)
+    go rec false p = let r = rec (rw p at e) in (r .0, omega (arith, r .1), r .2)
