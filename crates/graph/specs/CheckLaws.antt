@@ -13,7 +13,7 @@ use Rattle.lists.specs.Tests.{by-test}
 use Rattle.lists.specs.Search.{allBelow, all-below-at}
 use Rattle.graph.specs.Report.{Report, accepted, refused, number, reportOfChecked}
 use Rattle.graph.specs.Check.{Check, _gives_, firstRefusal, answered, written, graphChecks, checkGraph}
-use Rattle.graph.specs.Edges.{edgeCount}
+use Rattle.graph.specs.Edges.{edgeCount, firstEnd, secondEnd}
 use Rattle.graph.specs.declared.Refusal.{Refusal}
 use Rattle.graph.specs.declared.Graph.{Graph}
 use Rattle.graph.specs.declared.Checked.{Checked}
@@ -102,6 +102,11 @@ passed n ends e =
     by-test (allBelow n ends)
     (λ t₄. let o = eqb-false (length ends % 2) 1 t₂ in let h = ltb-false 8192 (length ends) t₃ in record { nodes = ltb-false _ _ t₁; even = omega arith; edges = omega arith; inside = all-below-at n ends t₄ })
     (λ t. let z : _≡_ {A = ℕ} 0 1 = cc (simp (t₁, t₂, t₃, t) at e) in absurd (omega arith)))))
+
+-- Both ends of every edge are below n.
+pub passed-inside : (n : ℕ) (ends : List ℕ) → Passed n ends → (k : ℕ) → k < edgeCount ends → (firstEnd ends k < n) × (secondEnd ends k < n)
+unfolding firstEnd secondEnd
+passed-inside n ends p k h = (p .inside (2 * k) (omega (arith, p .even)), p .inside (2 * k + 1) (omega (arith, p .even)))
 
 -- The answer of `check_graph`, taken apart by a caller.
 abbrev Sizes : Type 0

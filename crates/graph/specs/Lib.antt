@@ -6,4 +6,6 @@ pub mod Edges
 pub mod EdgeLaws
 pub mod Table
 pub mod TableLaws
+pub mod CountLaws
+pub mod FillLaws
 pub mod Color

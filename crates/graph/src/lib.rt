@@ -3,8 +3,10 @@ ghost use mathlib.Core.Path.{_≡_};
 ghost use Rattle.graph.specs.Report.{number};
 
 mod check;
+mod table;
 
 pub use check::check_graph;
+pub use table::incidence;
 
 // A node's number; never taken for an edge's.
 pub struct NodeIndex(pub u16);

@@ -1,0 +1,413 @@
+//! Reads cases on standard input and prints what the Rust answers, one line for each call; README.md has the format.
+//! Where document 01 refuses, the number is 01's; every other answer is that of the unchanged published code.
+
+use std::fmt::Display;
+use std::io::{BufWriter, Read, Write};
+use std::str::{FromStr, Split};
+
+use petgraph::graph::{EdgeIndex, NodeIndex, UnGraph};
+use petgraph::visit::EdgeRef;
+use rustworkx_core::coloring::{self, ColoringStrategy};
+use rustworkx_core::dictmap::DictMap;
+use rustworkx_core::line_graph::line_graph;
+use rustworkx_core::rules;
+
+enum Report {
+    Days(usize),
+    Total(usize),
+    Pairs(usize),
+    Refused(u8),
+}
+
+impl Display for Report {
+    fn fmt(&self, f: &mut std::fmt::Formatter) -> std::fmt::Result {
+        match self {
+            Report::Days(days) => write!(f, "days {days}"),
+            Report::Total(total) => write!(f, "total {total}"),
+            Report::Pairs(pairs) => write!(f, "pairs {pairs}"),
+            Report::Refused(number) => write!(f, "refused {number}"),
+        }
+    }
+}
+
+/// A slice as the call got it and as the call left it.
+struct Lent<T> {
+    before: Vec<T>,
+    now: Vec<T>,
+}
+
+impl<T: Clone> Lent<T> {
+    fn new(length: usize, at: fn(usize) -> T) -> Self {
+        let before: Vec<T> = (0..length).map(at).collect();
+        Lent {
+            now: before.clone(),
+            before,
+        }
+    }
+}
+
+impl<T: Display + PartialEq> Display for Lent<T> {
+    fn fmt(&self, f: &mut std::fmt::Formatter) -> std::fmt::Result {
+        if self.now == self.before {
+            f.write_str("unchanged")
+        } else {
+            f.write_str(&joined(&self.now))
+        }
+    }
+}
+
+fn joined<T: Display>(numbers: &[T]) -> String {
+    numbers
+        .iter()
+        .map(T::to_string)
+        .collect::<Vec<_>>()
+        .join(" ")
+}
+
+/// The graph that the calls below a graph line are asked about.
+struct Graph {
+    n: u64,
+    ends: Vec<u16>,
+    // 01's refusal; the rest has a meaning only without one.
+    refusal: Option<u8>,
+    edges: Vec<Vec<u16>>,
+    petgraph: UnGraph<(), ()>,
+}
+
+impl Graph {
+    fn new(n: u64, ends: Vec<u16>) -> Self {
+        let refusal = rules::graph_refusal(n, &ends);
+        let mut petgraph = UnGraph::default();
+        let mut edges = Vec::new();
+        if refusal.is_none() {
+            for _ in 0..n {
+                petgraph.add_node(());
+            }
+            for e in ends.chunks(2) {
+                petgraph.add_edge(NodeIndex::new(e[0].into()), NodeIndex::new(e[1].into()), ());
+            }
+            // The order of petgraph's edges(v) is 01's, or nothing below can be trusted.
+            edges = rules::edges_of_nodes(n as usize, &ends);
+            for (v, at) in edges.iter().enumerate() {
+                let walked = petgraph
+                    .edges(NodeIndex::new(v))
+                    .map(|e| e.id().index() as u16);
+                assert!(walked.eq(at.iter().copied()), "incidence order at node {v}");
+            }
+        }
+        Graph {
+            n,
+            ends,
+            refusal,
+            edges,
+            petgraph,
+        }
+    }
+
+    fn m(&self) -> usize {
+        self.ends.len() / 2
+    }
+}
+
+/// Puts the colours of a map, which has every place once, into the slice; hands back the days.
+fn put<K: Copy + Eq + std::hash::Hash>(
+    colors: &DictMap<K, usize>,
+    key: fn(usize) -> K,
+    slice: &mut Lent<u16>,
+) -> Report {
+    assert_eq!(colors.len(), slice.now.len());
+    for (i, place) in slice.now.iter_mut().enumerate() {
+        let color = colors[&key(i)];
+        assert!(color < rules::NONE.into());
+        *place = color as u16;
+    }
+    Report::Days(slice.now.iter().max().map_or(0, |&c| usize::from(c) + 1))
+}
+
+fn strategy(number: u8, presets: &[u16]) -> ColoringStrategy {
+    match number {
+        0 => ColoringStrategy::Degree,
+        1 => ColoringStrategy::Saturation,
+        2 => {
+            // The Rust visits presets of one colour in a hash set's order, which is no answer to compare with.
+            let mut set: Vec<u16> = presets
+                .iter()
+                .copied()
+                .filter(|&p| p != rules::NONE)
+                .collect();
+            set.sort_unstable();
+            assert!(
+                set.windows(2).all(|w| w[0] != w[1]),
+                "two presets share a colour"
+            );
+            ColoringStrategy::IndependentSet
+        }
+        _ => panic!("no strategy {number}"),
+    }
+}
+
+fn preset(presets: &[u16], i: usize) -> Result<Option<usize>, std::convert::Infallible> {
+    Ok(Some(presets[i])
+        .filter(|&p| p != rules::NONE)
+        .map(usize::from))
+}
+
+fn incidence(graph: &Graph, starts: &mut Lent<u16>, entries: &mut Lent<u16>) -> Report {
+    if let Some(number) = graph.refusal {
+        return Report::Refused(number);
+    }
+    if starts.now.len() != graph.n as usize + 1 || entries.now.len() != graph.ends.len() {
+        return Report::Refused(5);
+    }
+    let mut total = 0;
+    for v in graph.petgraph.node_indices() {
+        starts.now[v.index()] = total as u16;
+        for edge in graph.petgraph.edges(v) {
+            entries.now[total] = edge.id().index() as u16;
+            total += 1;
+        }
+    }
+    starts.now[graph.n as usize] = total as u16;
+    let (ruled_starts, ruled_entries) = rules::table(&graph.edges);
+    assert_eq!(starts.now, ruled_starts);
+    assert_eq!(entries.now[..total], ruled_entries);
+    Report::Total(total)
+}
+
+fn two_color(graph: &Graph, colors: &mut Lent<u8>) -> Report {
+    if let Some(number) = graph.refusal {
+        return Report::Refused(number);
+    }
+    if colors.now.len() != graph.n as usize {
+        return Report::Refused(5);
+    }
+    let answer = coloring::two_color(&graph.petgraph);
+    assert_eq!(
+        answer.is_none(),
+        rules::has_odd_closed_walk(graph.n as usize, &graph.ends)
+    );
+    let Some(map) = answer else {
+        return Report::Refused(8);
+    };
+    assert_eq!(map.len(), colors.now.len());
+    for (i, place) in colors.now.iter_mut().enumerate() {
+        *place = map[&NodeIndex::new(i)];
+    }
+    Report::Days(colors.now.iter().max().map_or(0, |&c| usize::from(c) + 1))
+}
+
+fn line_list(graph: &Graph, list: &mut Lent<u16>) -> Report {
+    if let Some(number) = graph.refusal {
+        return Report::Refused(number);
+    }
+    let pairs = rules::pair_count(&graph.edges);
+    if list.now.len() < 2 * pairs {
+        return Report::Refused(9);
+    }
+    let (lines, nodes): (UnGraph<(), ()>, _) = line_graph(&graph.petgraph, || (), || ());
+    assert_eq!(lines.edge_count(), pairs);
+    assert!((0..graph.m()).all(|k| nodes[&EdgeIndex::new(k)] == NodeIndex::new(k)));
+    for (place, pair) in lines.edge_references().enumerate() {
+        list.now[2 * place] = pair.source().index() as u16;
+        list.now[2 * place + 1] = pair.target().index() as u16;
+    }
+    Report::Pairs(pairs)
+}
+
+#[derive(Clone, Copy)]
+enum Form {
+    Plain,
+    Preset,
+    Strategy(u8),
+}
+
+fn node_color(graph: &Graph, form: Form, presets: &[u16], colors: &mut Lent<u16>) -> Report {
+    if let Some(number) = graph.refusal {
+        return Report::Refused(number);
+    }
+    let n = graph.n as usize;
+    if colors.now.len() != n || (!matches!(form, Form::Plain) && presets.len() != n) {
+        return Report::Refused(5);
+    }
+    let g = &graph.petgraph;
+    let of = |v: NodeIndex| preset(presets, v.index());
+    let map = match form {
+        Form::Plain => coloring::greedy_node_color(g),
+        Form::Preset => coloring::greedy_node_color_with_preset_colors(g, of).unwrap(),
+        Form::Strategy(number) => {
+            coloring::greedy_node_color_with_coloring_strategy(g, of, strategy(number, presets))
+                .unwrap()
+        }
+    };
+    put(&map, NodeIndex::new, colors)
+}
+
+fn edge_color(graph: &Graph, form: Form, presets: &[u16], colors: &mut Lent<u16>) -> Report {
+    if let Some(number) = graph.refusal {
+        return Report::Refused(number);
+    }
+    if colors.now.len() != graph.m() || (!matches!(form, Form::Plain) && presets.len() != graph.m())
+    {
+        return Report::Refused(5);
+    }
+    let g = &graph.petgraph;
+    let of = |e: EdgeIndex| preset(presets, e.index());
+    let map = match form {
+        Form::Plain => coloring::greedy_edge_color(g),
+        Form::Preset => unreachable!(),
+        Form::Strategy(number) => {
+            coloring::greedy_edge_color_with_coloring_strategy(g, of, strategy(number, presets))
+                .unwrap()
+        }
+    };
+    put(&map, EdgeIndex::new, colors)
+}
+
+fn misra_gries(graph: &Graph, colors: &mut Lent<u16>) -> Report {
+    if let Some(number) = graph.refusal {
+        return Report::Refused(number);
+    }
+    if colors.now.len() != graph.m() {
+        return Report::Refused(5);
+    }
+    if rules::has_loop(&graph.ends) {
+        return Report::Refused(6);
+    }
+    if rules::has_double_edge(&graph.ends) {
+        return Report::Refused(7);
+    }
+    put(
+        &coloring::misra_gries_edge_color(&graph.petgraph),
+        EdgeIndex::new,
+        colors,
+    )
+}
+
+/// The words of one line; anything but the format of README.md is a fault of the case file and ends the program.
+struct Words<'a> {
+    line: usize,
+    words: Split<'a, char>,
+}
+
+impl<'a> Words<'a> {
+    fn word(&mut self) -> &'a str {
+        let line = self.line;
+        self.words
+            .next()
+            .unwrap_or_else(|| panic!("line {line}: a word is missing"))
+    }
+
+    fn number<T: FromStr>(&mut self) -> T {
+        let word = self.word();
+        let number = word
+            .parse()
+            .ok()
+            .filter(|_| word.bytes().all(|b| b.is_ascii_digit()));
+        number.unwrap_or_else(|| panic!("line {}: {word:?} is no number of this kind", self.line))
+    }
+
+    fn list(&mut self) -> Vec<u16> {
+        let length: usize = self.number();
+        (0..length).map(|_| self.number()).collect()
+    }
+
+    fn lent(&mut self) -> Lent<u16> {
+        Lent::new(self.number(), rules::lent_number)
+    }
+
+    fn end(&mut self) {
+        assert!(
+            self.words.next().is_none(),
+            "line {}: a word too many",
+            self.line
+        );
+    }
+}
+
+fn main() {
+    // Another seed gives other hashes and other choices among equal nodes of Saturation.
+    if let Ok(seed) = std::env::var("ORACLE_SEED") {
+        let seed = seed.parse().expect("ORACLE_SEED is a number");
+        foldhash::set_seed(seed);
+        priority_queue::set_seed(seed);
+    }
+
+    let mut cases = String::new();
+    std::io::stdin().read_to_string(&mut cases).unwrap();
+    let mut out = BufWriter::new(std::io::stdout().lock());
+
+    let mut graph = Graph::new(0, Vec::new());
+    let mut presets: Vec<u16> = Vec::new();
+    for (i, line) in cases.lines().enumerate() {
+        let mut words = Words {
+            line: i + 1,
+            words: line.split(' '),
+        };
+        let name = words.word();
+        match name {
+            "graph" => {
+                let n = words.number();
+                graph = Graph::new(n, words.list());
+                words.end();
+                continue;
+            }
+            "presets" => {
+                presets = words.list();
+                words.end();
+                continue;
+            }
+            "incidence" => {
+                let (mut starts, mut entries) = (words.lent(), words.lent());
+                words.end();
+                let report = incidence(&graph, &mut starts, &mut entries);
+                writeln!(out, "{name} {report}: {starts}; {entries}").unwrap();
+                continue;
+            }
+            "edges_at" => {
+                let node = words.number();
+                let (starts, entries) = (words.list(), words.list());
+                words.end();
+                let stretch = rules::stretch(&starts, &entries, node);
+                let shown = if stretch.is_empty() {
+                    "empty".to_string()
+                } else {
+                    joined(stretch)
+                };
+                writeln!(out, "{name}: {shown}").unwrap();
+                continue;
+            }
+            "two_color" => {
+                let mut colors = Lent::new(words.number(), rules::lent_byte);
+                words.end();
+                let report = two_color(&graph, &mut colors);
+                writeln!(out, "{name} {report}: {colors}").unwrap();
+                continue;
+            }
+            _ => {}
+        }
+        // The calls that are left lend one slice of numbers, its length last.
+        let form = match name {
+            "greedy_node_color_with_coloring_strategy"
+            | "greedy_edge_color_with_coloring_strategy" => Form::Strategy(words.number()),
+            "greedy_node_color_with_preset_colors" => Form::Preset,
+            _ => Form::Plain,
+        };
+        let mut slice = words.lent();
+        words.end();
+        let report = match name {
+            "line_graph" => line_list(&graph, &mut slice),
+            "greedy_node_color"
+            | "greedy_node_color_with_preset_colors"
+            | "greedy_node_color_with_coloring_strategy" => {
+                node_color(&graph, form, &presets, &mut slice)
+            }
+            "greedy_edge_color" | "greedy_edge_color_with_coloring_strategy" => {
+                edge_color(&graph, form, &presets, &mut slice)
+            }
+            "misra_gries_edge_color" => misra_gries(&graph, &mut slice),
+            _ => panic!("line {}: no call {name:?}", i + 1),
+        };
+        writeln!(out, "{name} {report}: {slice}").unwrap();
+    }
+    out.flush().unwrap();
+}

@@ -1,0 +1,982 @@
+//! Writes the case file, the same bytes each time: `cases FAMILY ..` with the families incidence, two_color,
+//! line_graph, node_color, edge_color, misra_gries. All cases are made and only then sifted by family, so switching a
+//! family on alters no line of another.
+
+use std::io::Write;
+
+use rustworkx_core::rules::{self, NONE};
+
+#[derive(Clone, Copy, PartialEq)]
+enum Family {
+    Incidence,
+    TwoColor,
+    LineGraph,
+    NodeColor,
+    EdgeColor,
+    MisraGries,
+}
+
+impl Family {
+    fn named(name: &str) -> Option<Family> {
+        Some(match name {
+            "incidence" => Family::Incidence,
+            "two_color" => Family::TwoColor,
+            "line_graph" => Family::LineGraph,
+            "node_color" => Family::NodeColor,
+            "edge_color" => Family::EdgeColor,
+            "misra_gries" => Family::MisraGries,
+            _ => return None,
+        })
+    }
+}
+
+/// Splitmix64: short, and the same everywhere.
+struct Random(u64);
+
+impl Random {
+    fn next(&mut self) -> u64 {
+        self.0 = self.0.wrapping_add(0x9e37_79b9_7f4a_7c15);
+        let mut z = self.0;
+        z = (z ^ (z >> 30)).wrapping_mul(0xbf58_476d_1ce4_e5b9);
+        z = (z ^ (z >> 27)).wrapping_mul(0x94d0_49bb_1331_11eb);
+        z ^ (z >> 31)
+    }
+
+    fn below(&mut self, bound: usize) -> usize {
+        (self.next() % bound as u64) as usize
+    }
+
+    fn node(&mut self, n: usize) -> u16 {
+        self.below(n) as u16
+    }
+
+    fn shuffle<T>(&mut self, items: &mut [T]) {
+        for i in (1..items.len()).rev() {
+            items.swap(i, self.below(i + 1));
+        }
+    }
+}
+
+type Edges = Vec<(u16, u16)>;
+
+/// The same graph, its edges listed in another order and turned at random.
+fn mixed(random: &mut Random, edges: &[(u16, u16)]) -> Edges {
+    let mut edges: Edges = edges
+        .iter()
+        .map(|&(u, v)| if random.below(2) == 0 { (u, v) } else { (v, u) })
+        .collect();
+    random.shuffle(&mut edges);
+    edges
+}
+
+fn path(n: u16) -> Edges {
+    (1..n).map(|v| (v - 1, v)).collect()
+}
+
+fn cycle(n: u16) -> Edges {
+    (0..n).map(|v| (v, (v + 1) % n)).collect()
+}
+
+fn star(n: u16) -> Edges {
+    (1..n).map(|v| (0, v)).collect()
+}
+
+fn complete(n: u16) -> Edges {
+    (0..n)
+        .flat_map(|u| (u + 1..n).map(move |v| (u, v)))
+        .collect()
+}
+
+fn bipartite(a: u16, b: u16) -> Edges {
+    (0..a)
+        .flat_map(|u| (a..a + b).map(move |v| (u, v)))
+        .collect()
+}
+
+/// m different edges without loops.
+fn simple(random: &mut Random, n: u16, m: usize) -> Edges {
+    let mut edges = complete(n);
+    random.shuffle(&mut edges);
+    edges.truncate(m);
+    mixed(random, &edges)
+}
+
+fn flat(edges: &[(u16, u16)]) -> Vec<u16> {
+    edges.iter().flat_map(|&(u, v)| [u, v]).collect()
+}
+
+/// One graph line with the lines below it.
+struct Block {
+    n: u64,
+    ends: Vec<u16>,
+    lines: Vec<Line>,
+}
+
+enum Line {
+    Presets(Vec<u16>),
+    Call {
+        family: Family,
+        asks_presets: bool,
+        text: String,
+    },
+}
+
+fn words<T: ToString>(numbers: &[T]) -> String {
+    // The length, then the numbers.
+    let mut text = numbers.len().to_string();
+    for number in numbers {
+        text.push(' ');
+        text.push_str(&number.to_string());
+    }
+    text
+}
+
+impl Block {
+    fn new(n: u64, ends: &[u16]) -> Block {
+        Block {
+            n,
+            ends: ends.to_vec(),
+            lines: Vec::new(),
+        }
+    }
+
+    fn of(n: u16, edges: &[(u16, u16)]) -> Block {
+        Block::new(n.into(), &flat(edges))
+    }
+
+    fn n(&self) -> usize {
+        self.n as usize
+    }
+
+    fn m(&self) -> usize {
+        self.ends.len() / 2
+    }
+
+    fn edges(&self) -> Vec<Vec<u16>> {
+        rules::edges_of_nodes(self.n(), &self.ends)
+    }
+
+    fn call(&mut self, family: Family, asks_presets: bool, text: String) {
+        self.lines.push(Line::Call {
+            family,
+            asks_presets,
+            text,
+        });
+    }
+
+    fn incidence(&mut self, starts: usize, entries: usize) {
+        self.call(
+            Family::Incidence,
+            false,
+            format!("incidence {starts} {entries}"),
+        );
+    }
+
+    fn edges_at(&mut self, v: u16, starts: &[u16], entries: &[u16]) {
+        let text = format!("edges_at {v} {} {}", words(starts), words(entries));
+        self.call(Family::Incidence, false, text);
+    }
+
+    /// Asks the graph's own table, as the incidence call leaves it.
+    fn edges_at_own(&mut self, nodes: &[u16]) {
+        let (starts, mut entries) = rules::table(&self.edges());
+        entries.extend((entries.len()..self.ends.len()).map(rules::lent_number));
+        for &v in nodes {
+            self.edges_at(v, &starts, &entries);
+        }
+    }
+
+    fn two_color(&mut self, colors: usize) {
+        self.call(Family::TwoColor, false, format!("two_color {colors}"));
+    }
+
+    fn line_graph(&mut self, list: usize) {
+        self.call(Family::LineGraph, false, format!("line_graph {list}"));
+    }
+
+    fn presets(&mut self, presets: Vec<u16>) {
+        self.lines.push(Line::Presets(presets));
+    }
+
+    fn node_color(&mut self, colors: usize) {
+        self.call(
+            Family::NodeColor,
+            false,
+            format!("greedy_node_color {colors}"),
+        );
+    }
+
+    fn node_color_preset(&mut self, colors: usize) {
+        self.call(
+            Family::NodeColor,
+            true,
+            format!("greedy_node_color_with_preset_colors {colors}"),
+        );
+    }
+
+    fn node_color_by(&mut self, strategies: &[u8], colors: usize) {
+        for strategy in strategies {
+            let text = format!("greedy_node_color_with_coloring_strategy {strategy} {colors}");
+            self.call(Family::NodeColor, true, text);
+        }
+    }
+
+    fn edge_color(&mut self, colors: usize) {
+        self.call(
+            Family::EdgeColor,
+            false,
+            format!("greedy_edge_color {colors}"),
+        );
+    }
+
+    fn edge_color_by(&mut self, strategies: &[u8], colors: usize) {
+        for strategy in strategies {
+            let text = format!("greedy_edge_color_with_coloring_strategy {strategy} {colors}");
+            self.call(Family::EdgeColor, true, text);
+        }
+    }
+
+    fn misra_gries(&mut self, colors: usize) {
+        self.call(
+            Family::MisraGries,
+            false,
+            format!("misra_gries_edge_color {colors}"),
+        );
+    }
+
+    /// Every call with the right lengths and no presets. A line list that is long is only asked with too little lent.
+    fn every_call(&mut self) {
+        let (n, m) = (self.n(), self.m());
+        self.incidence(n + 1, 2 * m);
+        self.two_color(n);
+        self.line_graph((2 * rules::pair_count(&self.edges())).min(16384));
+        self.node_color(n);
+        self.presets(vec![NONE; n]);
+        self.node_color_preset(n);
+        self.node_color_by(&[0, 1, 2], n);
+        self.edge_color(m);
+        self.presets(vec![NONE; m]);
+        self.edge_color_by(&[0, 1, 2], m);
+        self.misra_gries(m);
+    }
+
+    /// Every call with these lengths, for a graph that is refused whatever is lent.
+    fn every_call_refused(&mut self, n: usize, m: usize) {
+        self.incidence(n + 1, 2 * m);
+        self.two_color(n);
+        self.line_graph(2 * m);
+        self.node_color(n);
+        self.presets(vec![NONE; n]);
+        self.node_color_preset(n);
+        self.node_color_by(&[0, 1, 2], n);
+        self.edge_color(m);
+        self.presets(vec![NONE; m]);
+        self.edge_color_by(&[0, 1, 2], m);
+        self.misra_gries(m);
+    }
+
+    /// Every call with lengths that are wrong by one or more, either way.
+    fn wrong_lengths(&mut self) {
+        let (n, m) = (self.n(), self.m());
+        let around = |right: usize| match right {
+            0 => vec![1],
+            1 => vec![2, 0],
+            _ => vec![right + 1, right - 1, 0],
+        };
+        for starts in around(n + 1) {
+            self.incidence(starts, 2 * m);
+        }
+        for entries in around(2 * m) {
+            self.incidence(n + 1, entries);
+        }
+        if m > 0 {
+            self.incidence(n, m);
+            self.incidence(0, 0);
+        }
+        for colors in around(n) {
+            self.two_color(colors);
+            self.node_color(colors);
+            for (presets, colors) in preset_lengths(n, colors) {
+                self.presets(vec![NONE; presets]);
+                self.node_color_preset(colors);
+                self.node_color_by(&[0, 1, 2], colors);
+            }
+        }
+        // The form without presets doesn't test their length, which is wrong here; so with edges below.
+        self.node_color(n);
+        let pairs = rules::pair_count(&self.edges());
+        if pairs > 0 {
+            self.line_graph(0);
+        }
+        if pairs > 0 && pairs < 5000 {
+            self.line_graph(2 * pairs - 1);
+        }
+        if pairs < 5000 {
+            self.line_graph(2 * pairs + 1);
+            self.line_graph(2 * pairs + 20);
+        }
+        for colors in around(m) {
+            self.edge_color(colors);
+            self.misra_gries(colors);
+            for (presets, colors) in preset_lengths(m, colors) {
+                self.presets(vec![NONE; presets]);
+                self.edge_color_by(&[0, 1, 2], colors);
+            }
+        }
+        if m < 1000 {
+            self.edge_color(m);
+        }
+        if m > 0 {
+            self.misra_gries(2 * m);
+        }
+    }
+
+    fn node_presets(&mut self, presets: &[u16]) {
+        let n = self.n();
+        self.presets(presets.to_vec());
+        self.node_color_preset(n);
+        self.node_color_by(asked(presets), n);
+    }
+
+    fn edge_presets(&mut self, presets: &[u16]) {
+        let m = self.m();
+        self.presets(presets.to_vec());
+        self.edge_color_by(asked(presets), m);
+    }
+
+    /// Presets of the usual kinds, for nodes and for edges.
+    fn some_presets(&mut self, random: &mut Random) {
+        for nodes in [true, false] {
+            let length = if nodes { self.n() } else { self.m() };
+            let mut lists = vec![few(random, length), different(random, length)];
+            if random.below(4) == 0 {
+                lists.push(vec![random.below(3) as u16; length]);
+            }
+            for presets in lists {
+                if nodes {
+                    self.node_presets(&presets);
+                } else {
+                    self.edge_presets(&presets);
+                }
+            }
+        }
+    }
+}
+
+/// Lengths of presets and colours of which one is wrong or both are. Long presets would swell the file, so for them only
+/// one kind is asked.
+fn preset_lengths(right: usize, wrong: usize) -> Vec<(usize, usize)> {
+    if right > 100 {
+        vec![(wrong, right)]
+    } else {
+        vec![(right, wrong), (wrong, wrong), (wrong, right)]
+    }
+}
+
+/// The strategies that may be asked: for IndependentSet the Rust's answer is settled only if no two presets share a
+/// colour.
+fn asked(presets: &[u16]) -> &'static [u8] {
+    let mut set: Vec<u16> = presets.iter().copied().filter(|&p| p != NONE).collect();
+    set.sort_unstable();
+    if set.windows(2).all(|w| w[0] != w[1]) {
+        &[0, 1, 2]
+    } else {
+        &[0, 1]
+    }
+}
+
+/// A third of the places preset, out of few colours, so that equal ones meet.
+fn few(random: &mut Random, length: usize) -> Vec<u16> {
+    (0..length)
+        .map(|_| {
+            if random.below(3) == 0 {
+                random.below(4) as u16
+            } else {
+                NONE
+            }
+        })
+        .collect()
+}
+
+/// Some places preset, each colour once: small ones, which meet the colours of the run, and now and then the greatest.
+fn different(random: &mut Random, length: usize) -> Vec<u16> {
+    let mut colors: Vec<u16> = (0..6).collect();
+    random.shuffle(&mut colors);
+    if random.below(5) == 0 {
+        colors.push(65534);
+    }
+    let mut presets = vec![NONE; length];
+    if length > 0 {
+        for _ in 0..random.below(7) {
+            presets[random.below(length)] = colors.pop().unwrap();
+        }
+    }
+    presets
+}
+
+fn limits(random: &mut Random, blocks: &mut Vec<Block>) {
+    for n in [0, 1, 2, 511, 512] {
+        let mut b = Block::new(n, &[]);
+        b.every_call();
+        b.wrong_lengths();
+        blocks.push(b);
+    }
+    // Above the limit; some of these become small numbers if they are cut to 8, 16, 32 or 63 bits.
+    for n in [
+        513,
+        514,
+        1024,
+        65535,
+        65536,
+        65541,
+        1 << 32,
+        (1 << 32) + 5,
+        1 << 63,
+        (1 << 63) + 5,
+        u64::MAX - 1,
+    ] {
+        let mut b = Block::new(n, &[0, 1, 1, 2]);
+        b.every_call_refused((n % 256) as usize, 2);
+        if n < 2000 {
+            b.every_call_refused(n as usize, 2);
+        }
+        blocks.push(b);
+    }
+    // One more than this count of nodes is 0 in 64 bits.
+    let mut b = Block::new(u64::MAX, &[]);
+    b.incidence(0, 0);
+    b.every_call_refused(0, 0);
+    b.every_call_refused(5, 0);
+    blocks.push(b);
+
+    // The last end that is inside, the first outside, in each place of the list.
+    for n in [1, 2, 5, 256, 512] {
+        let inside = [0, n - 1, n - 1, 0, 0, n - 1];
+        let mut b = Block::new(n.into(), &inside);
+        b.every_call();
+        blocks.push(b);
+        for place in 0..inside.len() {
+            for outside in [n, 65535] {
+                if outside == 65535 && place != 3 {
+                    continue;
+                }
+                let mut ends = inside;
+                ends[place] = outside;
+                let mut b = Block::new(n.into(), &ends);
+                b.every_call_refused(n.into(), 3);
+                blocks.push(b);
+            }
+        }
+    }
+    let mut b = Block::new(0, &[0, 0]);
+    b.every_call_refused(0, 1);
+    blocks.push(b);
+
+    // Odd lengths.
+    for ends in [&[0][..], &[0, 1, 2], &[0, 1, 1, 2, 2]] {
+        let mut b = Block::new(3, ends);
+        b.every_call_refused(3, ends.len() / 2);
+        b.every_call_refused(3, ends.len().div_ceil(2));
+        b.incidence(4, ends.len());
+        blocks.push(b);
+    }
+
+    // 4,096 edges and 4,097, and an odd length on either side of the limit.
+    for length in [8192, 8194, 8191, 8193] {
+        let ends: Vec<u16> = (0..length).map(|i| i % 2).collect();
+        let mut b = Block::new(2, &ends);
+        if length == 8192 {
+            // The line list has 16,773,120 pairs; twice that leaves 57,344 in 16 bits.
+            b.line_graph(0);
+            b.line_graph(8192);
+            b.line_graph(57344);
+            b.incidence(3, 8192);
+            b.two_color(2);
+            b.node_color(2);
+            b.presets(vec![NONE; 2]);
+            b.node_color_preset(2);
+            b.node_color_by(&[0, 1, 2], 2);
+            b.edge_color(4096);
+            b.presets(vec![NONE; 4096]);
+            b.edge_color_by(&[0, 1, 2], 4096);
+            b.misra_gries(4096);
+            b.wrong_lengths();
+        } else {
+            b.every_call_refused(2, usize::from(length) / 2);
+            b.every_call_refused(2, 4096);
+        }
+        blocks.push(b);
+    }
+    // As many loops: half of the entries stay as they were lent.
+    let mut b = Block::new(1, &[0; 8192]);
+    b.incidence(2, 8192);
+    b.incidence(2, 4096);
+    b.two_color(1);
+    b.line_graph(8192);
+    b.node_color(1);
+    b.edge_color(4096);
+    b.misra_gries(4096);
+    blocks.push(b);
+
+    // 512 nodes with 4,096 edges: without loops and double edges, with them, and in two parts.
+    let mut b = Block::of(512, &simple(random, 512, 4096));
+    b.every_call();
+    b.wrong_lengths();
+    b.edges_at_own(&[300]);
+    b.some_presets(random);
+    blocks.push(b);
+    let any: Edges = (0..4096)
+        .map(|_| (random.node(512), random.node(512)))
+        .collect();
+    let mut b = Block::of(512, &any);
+    b.every_call();
+    blocks.push(b);
+    let parts: Edges = (0..4096)
+        .map(|_| (random.node(256), 256 + random.node(256)))
+        .collect();
+    let mut b = Block::of(512, &mixed(random, &parts));
+    b.every_call();
+    blocks.push(b);
+}
+
+/// Several refusals are due at once; the first in 01's order is the answer.
+fn orders(blocks: &mut Vec<Block>) {
+    let long: Vec<u16> = (0..8194).map(|i| i % 2).collect();
+    let long_odd = &long[..8193];
+    let triangle = [0, 1, 1, 2, 2, 0];
+    let looped = [0, 1, 1, 1, 1, 0];
+    let list: &[(u64, &[u16])] = &[
+        (513, &[0]),                // 1, 2
+        (513, &[600, 0]),           // 1, 4
+        (u64::MAX, &[0, 1, 65535]), // 1, 2, (4)
+        (513, &long),               // 1, 3
+        (513, long_odd),            // 1, 2, 3
+        (1, long_odd),              // 2, 3, 4
+        (1, &long),                 // 3, 4
+        (0, &[0]),                  // 2, 4
+        (2, &[0, 1, 2]),            // 2, 4
+        (2, &triangle),             // 4, and an odd closed walk
+        (1, &looped),               // 4, and 6 and 7
+    ];
+    for &(n, ends) in list {
+        let mut b = Block::new(n, ends);
+        b.every_call_refused((n % 1000) as usize, ends.len() / 2);
+        b.every_call_refused(7, 3);
+        b.line_graph(0);
+        blocks.push(b);
+    }
+    // Wrong lengths where 8, 6 and 7 would follow; both 6 and 7, the double edge first in the list.
+    for (n, ends) in [
+        (3, &triangle[..]),
+        (2, &looped),
+        (1, &[0, 0]),
+        (2, &[0, 1, 1, 0]),
+        (2, &[0, 1, 1, 0, 1, 1]),
+    ] {
+        let mut b = Block::new(n, ends);
+        b.every_call();
+        b.wrong_lengths();
+        blocks.push(b);
+    }
+}
+
+fn shapes(random: &mut Random, blocks: &mut Vec<Block>) {
+    // Small lists, asked for every node's edges too: loops, double edges in both orders, the two incidence groups,
+    // isolated nodes in front, between and behind.
+    let small: &[(u16, &[(u16, u16)])] = &[
+        (1, &[(0, 0)]),
+        (1, &[(0, 0), (0, 0), (0, 0)]),
+        (2, &[(0, 0)]),
+        (2, &[(1, 1)]),
+        (2, &[(0, 1)]),
+        (2, &[(1, 0)]),
+        (2, &[(0, 1), (0, 1)]),
+        (2, &[(0, 1), (1, 0)]),
+        (2, &[(1, 0), (0, 1), (1, 0), (1, 0), (0, 1)]),
+        (2, &[(0, 1), (0, 0), (1, 0), (0, 0), (1, 1), (0, 1)]),
+        (3, &[(0, 1), (2, 0)]),
+        (3, &[(1, 0), (0, 2)]),
+        (3, &[(1, 2)]),
+        (3, &[(0, 2)]),
+        (3, &[(1, 2), (0, 2)]),
+        (3, &[(0, 1), (1, 2), (0, 2)]),
+        (3, &[(2, 1), (1, 0), (0, 2), (2, 2)]),
+        (4, &[(0, 1), (0, 2), (1, 2), (0, 3)]),
+        (4, &[(0, 1), (1, 2), (0, 2), (2, 3)]),
+        (4, &[(0, 1), (1, 2), (2, 3)]),
+        (4, &[(0, 1), (2, 0), (1, 3), (0, 3)]),
+        (4, &[(1, 0), (0, 2), (2, 1), (1, 3), (3, 0)]),
+        (4, &[(2, 3), (3, 2), (2, 2)]),
+        (5, &[(0, 1), (1, 2), (2, 3), (3, 4)]),
+        (5, &[(4, 3), (1, 4), (3, 4), (4, 1), (4, 4), (1, 3)]),
+        (6, &[(5, 4), (3, 2), (1, 0)]),
+        (7, &[(2, 4), (4, 2), (2, 4), (3, 3), (4, 3)]),
+        (8, &[(7, 4), (5, 6), (7, 1), (5, 7), (3, 6), (6, 1)]),
+    ];
+    for &(n, edges) in small {
+        let mut b = Block::of(n, edges);
+        b.every_call();
+        b.wrong_lengths();
+        let nodes: Vec<u16> = (0..n + 2).chain([65535]).collect();
+        b.edges_at_own(&nodes);
+        b.some_presets(random);
+        blocks.push(b);
+    }
+
+    // Tables that no call makes.
+    let mut b = Block::new(0, &[]);
+    let broken: &[(u16, &[u16], &[u16])] = &[
+        (0, &[], &[]),
+        (0, &[], &[7, 8, 9]),
+        (65535, &[], &[7]),
+        (0, &[0], &[7]),
+        (0, &[1], &[7, 8]),
+        (0, &[0, 0], &[7]),
+        (0, &[0, 1], &[]),
+        (0, &[0, 1], &[7]),
+        (0, &[0, 2], &[7]),
+        (0, &[0, 65535], &[7]),
+        (0, &[1, 1], &[7]),
+        (0, &[1, 2], &[7]),
+        (0, &[2, 2], &[7]),
+        (0, &[1, 0], &[7]),
+        (0, &[65535, 0], &[7]),
+        (0, &[65535, 65535], &[7]),
+        (0, &[1, 3], &[65535, 65534, 0, 5]),
+        (1, &[1, 3], &[65535, 65534, 0, 5]),
+        (1, &[4, 3, 4], &[6, 7, 8, 9]),
+        (0, &[4, 3, 4], &[6, 7, 8, 9]),
+        (1, &[0, 4, 4, 5], &[6, 7, 8, 9]),
+        (2, &[0, 4, 4, 5], &[6, 7, 8, 9]),
+        (2, &[9, 9, 2, 4], &[6, 7, 8, 9]),
+        (3, &[0, 1, 2, 3], &[6, 7, 8]),
+        (4, &[0, 1, 2, 3], &[6, 7, 8]),
+        (65534, &[0, 1, 2, 3], &[6, 7, 8]),
+        (65535, &[0, 1, 2, 3], &[6, 7, 8]),
+    ];
+    for &(v, starts, entries) in broken {
+        b.edges_at(v, starts, entries);
+    }
+    blocks.push(b);
+
+    let mut graphs: Vec<(u16, Edges)> = Vec::new();
+    for n in [2, 3, 6, 20] {
+        graphs.push((n, path(n)));
+        graphs.push((n, path(n).into_iter().rev().map(|(u, v)| (v, u)).collect()));
+        graphs.push((n, mixed(random, &path(n))));
+    }
+    graphs.push((512, path(512)));
+    graphs.push((512, mixed(random, &path(512))));
+    for n in [2, 3, 4, 5, 6, 7, 8, 9, 20, 21, 101] {
+        graphs.push((n, cycle(n)));
+        graphs.push((n, mixed(random, &cycle(n))));
+    }
+    graphs.push((511, mixed(random, &cycle(511))));
+    graphs.push((512, cycle(512)));
+    graphs.push((512, mixed(random, &cycle(512))));
+    for n in [3, 4, 7, 30] {
+        graphs.push((n, star(n)));
+        graphs.push((n, mixed(random, &star(n))));
+        // The hub as the last node, and as second end.
+        graphs.push((
+            n,
+            star(n).into_iter().map(|(_, v)| (v - 1, n - 1)).collect(),
+        ));
+    }
+    graphs.push((120, star(120)));
+    graphs.push((512, mixed(random, &star(512))));
+    for n in [4, 5, 6, 20] {
+        graphs.push((n, complete(n)));
+        graphs.push((n, mixed(random, &complete(n))));
+    }
+    graphs.push((6, mixed(random, &bipartite(3, 3))));
+    graphs.push((12, mixed(random, &bipartite(5, 7))));
+    graphs.push((128, bipartite(64, 64)));
+    // Components: single edges with free nodes between, cycles side by side, an odd one last.
+    graphs.push((400, (0..100).map(|i| (4 * i + 2, 4 * i + 1)).collect()));
+    let cycles = |lengths: &[u16]| -> (u16, Edges) {
+        let mut from = 0;
+        let mut edges = Vec::new();
+        for &length in lengths {
+            edges.extend(cycle(length).into_iter().map(|(u, v)| (u + from, v + from)));
+            from += length;
+        }
+        (from, edges)
+    };
+    for lengths in [&[4, 6, 4, 8][..], &[4, 6, 4, 5], &[3, 4, 6], &[2, 1, 2]] {
+        let (n, edges) = cycles(lengths);
+        graphs.push((n, mixed(random, &edges)));
+    }
+    // Components whose nodes are interleaved: edges join nodes with the same remainder.
+    graphs.push((
+        60,
+        mixed(random, &(0..55).map(|v| (v, v + 5)).collect::<Edges>()),
+    ));
+    for (n, edges) in graphs {
+        let mut b = Block::of(n, &edges);
+        b.every_call();
+        if n <= 30 {
+            b.some_presets(random);
+        }
+        blocks.push(b);
+    }
+
+    // The greatest complete graph; 8,014 is what 16 bits leave of its line list's 728,910 numbers.
+    for edges in [complete(91), mixed(random, &complete(91))] {
+        let mut b = Block::of(91, &edges);
+        b.line_graph(8014);
+        b.node_color(91);
+        b.presets(vec![NONE; 91]);
+        b.node_color_by(&[0, 1, 2], 91);
+        b.edge_color(4095);
+        b.presets(vec![NONE; 4095]);
+        b.edge_color_by(&[0, 1, 2], 4095);
+        b.misra_gries(4095);
+        blocks.push(b);
+    }
+    // 257 edges at one node: 65,792 numbers, of which 16 bits leave 256.
+    let mut b = Block::of(258, &star(258));
+    b.line_graph(256);
+    b.line_graph(65535);
+    blocks.push(b);
+    // 64 by 64 in another order, for the colourings.
+    let mut b = Block::of(128, &mixed(random, &bipartite(64, 64)));
+    b.edge_color(4096);
+    b.misra_gries(4096);
+    blocks.push(b);
+}
+
+/// Presets by hand: the greatest and the least colour, all preset, equal ones side by side, holes below a preset.
+fn presets_by_hand(blocks: &mut Vec<Block>) {
+    let n = NONE;
+    let triangle = [(0, 1), (1, 2), (0, 2)];
+    type Lists<'a> = &'a [(u16, &'a [(u16, u16)], &'a [&'a [u16]])];
+    let lists: Lists = &[
+        (1, &[], &[&[n], &[0], &[65534], &[5]]),
+        (
+            2,
+            &[(0, 1)],
+            &[
+                &[n, n],
+                &[4, 4],
+                &[0, n],
+                &[n, 0],
+                &[1, n],
+                &[65534, n],
+                &[65534, 0],
+                &[65534, 65534],
+            ],
+        ),
+        (
+            3,
+            &[(0, 1), (0, 2)],
+            &[
+                &[1, n, n],
+                &[n, 1, 1],
+                &[n, 0, 1],
+                &[0, 0, 0],
+                &[65534, n, 0],
+                &[n, 1, 2],
+            ],
+        ),
+        (
+            3,
+            &triangle,
+            &[
+                &[0, 0, n],
+                &[n, 1, 1],
+                &[2, 2, 2],
+                &[1, n, n],
+                &[n, n, 65534],
+                &[0, 1, 2],
+                &[n, 0, 2],
+            ],
+        ),
+        (
+            4,
+            &[(0, 1), (1, 2), (2, 3)],
+            &[
+                &[n, 0, n, n],
+                &[n, 1, n, n],
+                &[0, n, n, 1],
+                &[n, n, 0, 0],
+                &[3, 2, 1, 0],
+            ],
+        ),
+        (2, &[(0, 1), (1, 0)], &[&[n, 0], &[0, n], &[1, 1]]),
+        (1, &[(0, 0)], &[&[n], &[0], &[3]]),
+        (
+            2,
+            &[(0, 0), (0, 1), (1, 1)],
+            &[&[n, 0], &[0, n], &[2, n], &[0, 0]],
+        ),
+    ];
+    for &(nodes, edges, presets) in lists {
+        let mut b = Block::of(nodes, edges);
+        for list in presets {
+            b.node_presets(list);
+            // As many edges as nodes, or the list doesn't fit the edges.
+            if list.len() == b.m() {
+                b.edge_presets(list);
+            }
+        }
+        blocks.push(b);
+    }
+    // Every choice of none, 0, 1 and 2 for the four edges of a triangle with a tail.
+    let mut b = Block::of(4, &[(0, 1), (1, 2), (0, 2), (2, 3)]);
+    for code in 0..256 {
+        let list: Vec<u16> = (0..4).map(|i| [n, 0, 1, 2][code >> (2 * i) & 3]).collect();
+        b.edge_presets(&list);
+        b.node_presets(&list);
+    }
+    blocks.push(b);
+}
+
+/// A loop, and a double edge, in each place of a small list.
+fn loops_and_doubles(blocks: &mut Vec<Block>) {
+    let base = [(0, 1), (2, 1), (3, 0), (3, 4), (4, 2)];
+    let mut add = |edges: Edges| {
+        let mut b = Block::of(5, &edges);
+        b.misra_gries(edges.len());
+        blocks.push(b);
+    };
+    add(base.to_vec());
+    for place in 0..=base.len() {
+        for node in [0, 4] {
+            let mut edges = base.to_vec();
+            edges.insert(place, (node, node));
+            add(edges);
+        }
+        for &(u, v) in &base {
+            for double in [(u, v), (v, u)] {
+                let mut edges = base.to_vec();
+                edges.insert(place, double);
+                add(edges.clone());
+                if place == 0 {
+                    edges.push((2, 2));
+                    add(edges);
+                }
+            }
+        }
+    }
+}
+
+fn random_graphs(blocks: &mut Vec<Block>) {
+    for i in 0..300 {
+        let random = &mut Random(1000 + i);
+        let n = 1 + random.node(12);
+        let m = random.below(21);
+        let nodes = usize::from(n);
+        let edges = match i % 4 {
+            // Anything.
+            0 => (0..m)
+                .map(|_| (random.node(nodes), random.node(nodes)))
+                .collect(),
+            // A forest over shuffled names, and at times one edge more, which may close an odd walk.
+            1 => {
+                let mut names: Vec<u16> = (0..n).collect();
+                random.shuffle(&mut names);
+                let mut edges = Vec::new();
+                for v in 1..nodes {
+                    if random.below(5) > 0 {
+                        edges.push((names[v], names[random.below(v)]));
+                    }
+                }
+                if i % 8 == 5 {
+                    edges.push((random.node(nodes), random.node(nodes)));
+                }
+                edges
+            }
+            // Two sides, double edges allowed.
+            2 => {
+                let side: Vec<usize> = (0..n).map(|_| random.below(2)).collect();
+                let ends: Edges = (0..3 * m)
+                    .map(|_| (random.node(nodes), random.node(nodes)))
+                    .collect();
+                ends.into_iter()
+                    .filter(|&(u, v)| side[usize::from(u)] != side[usize::from(v)])
+                    .take(m)
+                    .collect()
+            }
+            // Without loops and double edges.
+            _ => simple(random, n, m),
+        };
+        let edges = mixed(random, &edges);
+        let mut b = Block::of(n, &edges);
+        b.every_call();
+        b.edges_at_own(&[random.node(nodes + 1), random.node(nodes)]);
+        if i % 10 == 9 {
+            b.wrong_lengths();
+        }
+        let pairs = rules::pair_count(&b.edges());
+        if i % 3 == 0 {
+            b.line_graph(2 * pairs + 1 + random.below(9));
+        } else if pairs > 0 {
+            b.line_graph(2 * pairs - 1 - random.below(2 * pairs));
+        }
+        b.some_presets(random);
+        blocks.push(b);
+    }
+    // Denser and larger ones, for long paths and wide fans.
+    for i in 0..240 {
+        let random = &mut Random(5000 + i);
+        let n = if i < 200 {
+            4 + random.node(12)
+        } else {
+            20 + random.node(21)
+        };
+        let most = usize::from(n) * usize::from(n - 1) / 2;
+        let m = most / 3 + random.below(most - most / 3 + 1);
+        let edges = simple(random, n, m);
+        let mut b = Block::of(n, &edges);
+        b.misra_gries(edges.len());
+        if i % 5 == 0 {
+            b.some_presets(random);
+        }
+        blocks.push(b);
+    }
+}
+
+fn main() {
+    let chosen: Vec<Family> = std::env::args()
+        .skip(1)
+        .map(|name| Family::named(&name).unwrap_or_else(|| panic!("no family {name:?}")))
+        .collect();
+
+    let mut blocks = Vec::new();
+    let random = &mut Random(1);
+    limits(random, &mut blocks);
+    orders(&mut blocks);
+    shapes(random, &mut blocks);
+    presets_by_hand(&mut blocks);
+    loops_and_doubles(&mut blocks);
+    random_graphs(&mut blocks);
+
+    let mut out = std::io::BufWriter::new(std::io::stdout().lock());
+    for block in &blocks {
+        let mut graph_due = true;
+        let mut presets_due = None;
+        for line in &block.lines {
+            match line {
+                Line::Presets(presets) => presets_due = Some(presets),
+                Line::Call {
+                    family,
+                    asks_presets,
+                    text,
+                } if chosen.contains(family) => {
+                    if std::mem::take(&mut graph_due) {
+                        writeln!(out, "graph {} {}", block.n, words(&block.ends)).unwrap();
+                    }
+                    if *asks_presets {
+                        if let Some(presets) = presets_due.take() {
+                            writeln!(out, "presets {}", words(presets)).unwrap();
+                        }
+                    }
+                    writeln!(out, "{text}").unwrap();
+                }
+                Line::Call { .. } => {}
+            }
+        }
+    }
+    out.flush().unwrap();
+}
