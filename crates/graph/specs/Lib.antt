@@ -8,4 +8,5 @@ pub mod Table
 pub mod TableLaws
 pub mod CountLaws
 pub mod FillLaws
+pub mod IncidenceLaws
 pub mod Color
