@@ -1,17 +1,17 @@
 -- Laws of the checks: what each test of the code decides, what a passed graph is, and checks that follow others.
-use Prim.Native.Nat.{ℕ, suc, _+_, _*_, _≤_, _<_, _%_, _/_}
+use Prim.Native.Nat.{ℕ, _+_, _*_, _≤_, _<_, _%_, _/_}
 use mathlib.Core.Path.{_≡_, refl, sym, ap, _∙_}
 use mathlib.Core.List.{List, [], _∷_, _++_}
 use mathlib.Core.Logic.{_⊎_, inl, inr}
-use mathlib.Core.Bool.{Bool, true, false, not}
+use mathlib.Core.Bool.{Bool, true, false}
 use mathlib.Core.Option.{Option, none, some}
 use native.Mathlib.Omega.{arith}
 use lib.ListN.{length, getD}
 use lib.Dec.{ltb, eqb}
-use borrow.Author.Tests.{lt-ltb, le-ltb, eq-eqb, ne-eqb, ltb-false, eqb-false, eqb-true, not-false}
+use borrow.Author.Tests.{lt-ltb, le-ltb, eq-eqb, ne-eqb, ltb-false, eqb-false}
 use Rattle.lists.specs.Tests.{by-test}
 use Rattle.lists.specs.Search.{allBelow, all-below-at}
-use Rattle.graph.specs.Report.{Report, accepted, refused, number, reportOfChecked}
+use Rattle.graph.specs.Report.{accepted, refused, number, reportOfChecked}
 use Rattle.graph.specs.Check.{Check, _gives_, firstRefusal, answered, written, graphChecks, checkGraph}
 use Rattle.graph.specs.Edges.{edgeCount, firstEnd, secondEnd}
 use Rattle.graph.specs.declared.Refusal.{Refusal}

@@ -1,18 +1,16 @@
 -- Colours: days, and the smallest free colour.
 use Prim.Native.Nat.{ℕ, zero, suc, _+_, _≤_, _<_}
-use mathlib.Core.Path.{_≡_, refl, sym, ap, _∙_, subst}
-use mathlib.Core.Logic.{_⊎_, inl, inr, _≢_}
+use mathlib.Core.Path.{_≡_, refl}
+use mathlib.Core.Logic.{inl, inr}
 use mathlib.Core.List.{List, [], _∷_}
 use mathlib.Core.Bool.{Bool, true, false, cond}
 use native.Mathlib.Omega.{arith}
 use native.Mathlib.Nat.{not-suc-le-zero}
-use native.Mathlib.Numerals.{add-one}
-use lib.ListN.{length, getD, take}
-use lib.Seq.{take-suc}
+use lib.ListN.{length}
 use lib.Dec.{ltb}
-use borrow.Author.Tests.{lt-ltb, le-ltb, ltb-true, ltb-false}
+use borrow.Author.Tests.{ltb-true, ltb-false}
 use Rattle.lists.specs.Tests.{by-test, dec-eq}
-use Rattle.lists.specs.Member.{Mem, elem, elem-true, elem-false, mem-elem, dec-mem, cover-bound}
+use Rattle.lists.specs.Member.{Mem, elem, elem-true, elem-false, cover-bound}
 use Rattle.graph.specs.Check.{Check, answered, written}
 use Rattle.graph.specs.Report.{Report}
 

@@ -1,16 +1,15 @@
 -- Laws of ends and incidence order: which edges stand at a node, that each stands once, far ends, degrees.
-use Prim.Native.Nat.{ℕ, zero, suc, _+_, _*_, _≤_, _<_}
-use mathlib.Core.Path.{_≡_, refl, sym, ap, _∙_, subst}
+use Prim.Native.Nat.{ℕ, zero, suc, _+_, _≤_, _<_}
+use mathlib.Core.Path.{_≡_, refl, sym, _∙_}
 use mathlib.Core.Logic.{_⊎_, inl, inr, _≢_}
 use mathlib.Core.List.{List, [], _∷_, _++_}
-use mathlib.Core.Bool.{Bool, true, false, not, _&&_, cond, false≢true, true≢false}
+use mathlib.Core.Bool.{Bool, true, false, not, cond, false≢true}
 use native.Mathlib.Omega.{arith}
 use native.Mathlib.Nat.{not-suc-le-zero}
-use native.Mathlib.Numerals.{add-one}
-use lib.ListN.{length, getD, length-append}
+use lib.ListN.{length, length-append}
 use lib.Dec.{eqb}
-use borrow.Author.Tests.{eq-eqb, ne-eqb, eqb-true, eqb-false, not-true, not-false}
-use Rattle.lists.specs.Tests.{by-test, dec-eq, and-true, true-and}
+use borrow.Author.Tests.{eq-eqb, ne-eqb, eqb-true, eqb-false, not-true}
+use Rattle.lists.specs.Tests.{by-test, dec-eq, and-true}
 use Rattle.lists.specs.Member.{Mem, Nodup, mem-append, mem-append-left, mem-append-right, nodup-append}
 use Rattle.graph.specs.Edges.{firstEnd, secondEnd, isLoop, farEnd, keep, secondAt, firstEdges, secondEdges, edgesAt, degree}
 

@@ -1,10 +1,7 @@
 -- How a call answers, in the papers' terms: accepted with its values, or refused with a number.
 use Prim.Native.Nat.{ℕ}
-use mathlib.Core.List.{List}
-use mathlib.Core.Option.{Option, none, some}
 use Rattle.graph.specs.declared.Refusal.{Refusal}
 use Rattle.graph.specs.declared.Refusal.the-variants.{TooManyNodes, OddEnds, TooManyEnds, EndOutside, WrongLength, Loop, DoubleEdge, OddClosedWalk, ShortList, BadFile}
-use Rattle.graph.specs.declared.Graph.{Graph}
 use Rattle.graph.specs.declared.Checked.{Checked}
 use Rattle.graph.specs.declared.Checked.the-variants as C
 use Rattle.graph.specs.declared.IncidenceAnswer.{IncidenceAnswer}

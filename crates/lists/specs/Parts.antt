@@ -1,11 +1,11 @@
 -- Parts of a list: what a store outside a part, or right before it, does to the part.
 use Prim.Native.Nat.{ℕ, zero, suc, _+_, _-_, _≤_, _<_}
-use mathlib.Core.Path.{_≡_, refl, sym, ap, _∙_}
+use mathlib.Core.Path.{_≡_, refl, ap, _∙_}
 use mathlib.Core.Logic.{_⊎_, inl, inr}
 use mathlib.Core.List.{List, [], _∷_, _++_}
 use native.Mathlib.Omega.{arith}
-use lib.ListN.{length, getD, set, take, drop, length-set, length-take, length-drop}
-use lib.Seq.{drop-cons, drop-set-lt, drop-set-add, take-set-le, getD-set-same, take-length, length-take-le, take-add, drop-drop}
+use lib.ListN.{length, set, take, drop, length-set, length-drop}
+use lib.Seq.{drop-cons, drop-set-lt, drop-set-add, take-set-le, getD-set-same, length-take-le, take-add, drop-drop}
 
 -- The numbers from place a up to, not including, place e: Rattle's `&l[a..e]`.
 abbrev pub part : List ℕ → ℕ → ℕ → List ℕ

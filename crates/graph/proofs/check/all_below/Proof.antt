@@ -1,9 +1,9 @@
 -- `all_below` meets its contract. The invariant: what is left decides as the whole does.
 use Prim.Native.Nat.{_≤_, _-_}
 use mathlib.Core.Path.{_≡_}
-use borrow.Author.Needs.{needs}
 use native.Mathlib.Omega.{arith}
 use lib.ListN.{length, drop}
+use borrow.Author.Needs.{needs}
 use Rattle.lists.specs.Search.{allBelow, all-below-next, all-below-broken, all-below-end}
 use Rattle.graph.proofs.check.all_below.Statement.{statement}
 use Rattle.graph.proofs.check.all_below.Tie as tie
