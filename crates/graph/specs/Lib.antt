@@ -9,4 +9,6 @@ pub mod TableLaws
 pub mod CountLaws
 pub mod FillLaws
 pub mod IncidenceLaws
+pub mod Stretch
+pub mod Walk
 pub mod Color

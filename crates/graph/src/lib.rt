@@ -3,10 +3,16 @@ ghost use mathlib.Core.Path.{_≡_};
 ghost use Rattle.graph.specs.Report.{number};
 
 mod check;
+mod edges;
 mod table;
+pub mod walk;
 
 pub use check::check_graph;
+pub use edges::edges_at;
 pub use table::incidence;
+pub use walk::edge_at;
+pub use walk::EdgeWalk;
+pub use walk::WalkStep;
 
 // A node's number; never taken for an edge's.
 pub struct NodeIndex(pub u16);

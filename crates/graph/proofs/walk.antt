@@ -1,0 +1,2 @@
+-- `Hand` has what the proofs by hand below share.
+mod Hand
