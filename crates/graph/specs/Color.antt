@@ -1,14 +1,16 @@
 -- Colours: days, and the smallest free colour.
-use Prim.Native.Nat.{ℕ, zero, suc, _+_, _≤_, _<_}
-use mathlib.Core.Path.{_≡_, refl}
+use Prim.Native.Nat.{_-_, ℕ, zero, suc, _+_, _≤_, _<_}
+use mathlib.Core.Path.{ap, _∙_, _≡_, refl}
 use mathlib.Core.Logic.{inl, inr}
 use mathlib.Core.List.{List, [], _∷_}
 use mathlib.Core.Bool.{Bool, true, false, cond}
+use native.Mathlib.Numerals.{add-one}
 use native.Mathlib.Omega.{arith}
 use native.Mathlib.Nat.{not-suc-le-zero}
-use lib.ListN.{length}
+use lib.ListN.{getD, drop, length}
+use lib.Seq.{drop-cons, drop-length}
 use lib.Dec.{ltb}
-use borrow.Author.Tests.{ltb-true, ltb-false}
+use borrow.Author.Tests.{le-ltb, lt-ltb, ltb-true, ltb-false}
 use Rattle.lists.specs.Tests.{by-test, dec-eq}
 use Rattle.lists.specs.Member.{Mem, elem, elem-true, elem-false, cover-bound}
 use Rattle.graph.specs.Check.{Check, answered, written}
@@ -74,3 +76,23 @@ pub last-day : (cs : List ℕ) (d : ℕ) → daysOf cs ≡ suc d → Mem d cs
 unfolding daysOf
 last-day [] d e = let z : ⊥ = omega (arith, e) in absurd z
 last-day (x ∷ cs) d e = by-test (ltb x (daysOf cs)) (λ t. inr (last-day cs d (simp t at e))) (λ t. let e′ = simp t at e in inl (omega (arith, e′)))
+
+-- Going through the colours from the back, as the code does.
+pub days-none : (cs : List ℕ) → 0 ≡ daysOf (drop (length cs) cs)
+unfolding daysOf
+days-none cs = rw (drop-length cs)
+
+days-at : (cs : List ℕ) (i : ℕ) → 0 < i → i ≤ length cs → drop (i - 1) cs ≡ getD cs (i - 1) 0 ∷ drop i cs
+days-at cs i h k = let e : suc (i - 1) ≡ i = omega arith in drop-cons cs (i - 1) 0 (omega arith) ∙ ap (λ (j : ℕ). getD cs (i - 1) 0 ∷ drop j cs) e
+
+pub days-more : (cs : List ℕ) (i d : ℕ) → d ≡ daysOf (drop i cs) → 0 < i → i ≤ length cs → d ≤ getD cs (i - 1) 0 → getD cs (i - 1) 0 + 1 ≡ daysOf (drop (i - 1) cs)
+unfolding daysOf
+days-more cs i d e h k b = rw (days-at cs i h k) (simp (le-ltb (getD cs (i - 1) 0) (daysOf (drop i cs)) (omega arith)) (add-one (getD cs (i - 1) 0)))
+
+pub days-same : (cs : List ℕ) (i d : ℕ) → d ≡ daysOf (drop i cs) → 0 < i → i ≤ length cs → getD cs (i - 1) 0 < d → d ≡ daysOf (drop (i - 1) cs)
+unfolding daysOf
+days-same cs i d e h k b = rw (days-at cs i h k) (simp (lt-ltb (getD cs (i - 1) 0) (daysOf (drop i cs)) (omega arith)) e)
+
+pub days-all : (cs : List ℕ) (i d : ℕ) → d ≡ daysOf (drop i cs) → i ≤ 0 → d ≡ daysOf cs
+days-all cs zero d e h = e
+days-all cs (suc i) d e h = let z : ⊥ = omega arith in absurd z

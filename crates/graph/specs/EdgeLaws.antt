@@ -1,12 +1,12 @@
 -- Laws of ends and incidence order: which edges stand at a node, that each stands once, far ends, degrees.
-use Prim.Native.Nat.{ℕ, zero, suc, _+_, _≤_, _<_}
+use Prim.Native.Nat.{_*_, ℕ, zero, suc, _+_, _≤_, _<_}
 use mathlib.Core.Path.{_≡_, refl, sym, _∙_}
 use mathlib.Core.Logic.{_⊎_, inl, inr, _≢_}
 use mathlib.Core.List.{List, [], _∷_, _++_}
 use mathlib.Core.Bool.{Bool, true, false, not, cond, false≢true}
 use native.Mathlib.Omega.{arith}
 use native.Mathlib.Nat.{not-suc-le-zero}
-use lib.ListN.{length, length-append}
+use lib.ListN.{getD, length, length-append}
 use lib.Dec.{eqb}
 use borrow.Author.Tests.{eq-eqb, ne-eqb, eqb-true, eqb-false, not-true}
 use Rattle.lists.specs.Tests.{by-test, dec-eq, and-true}
@@ -41,6 +41,15 @@ two-ends ends k v w (inl p) (inl q) = inl (sym q ∙ p)
 two-ends ends k v w (inl p) (inr q) = inr (sym q ∙ sym (far-first ends k v p))
 two-ends ends k v w (inr p) (inl q) = inr (sym q ∙ sym (far-second ends k v p))
 two-ends ends k v w (inr p) (inr q) = inl (sym q ∙ p)
+
+-- As the code reads the ends: a is the first, b the second.
+pub far-read-second : (ends : List ℕ) (k v a b : ℕ) → a ≡ getD ends (2 * k) 0 → a ≡ v → b ≡ getD ends (2 * k + 1) 0 → b ≡ farEnd ends k v
+unfolding farEnd firstEnd secondEnd
+far-read-second ends k v a b p q r = simp (eq-eqb (getD ends (2 * k) 0) v (sym p ∙ q)) r
+
+pub far-read-first : (ends : List ℕ) (k v a : ℕ) → a ≡ getD ends (2 * k) 0 → (a ≡ v → ⊥) → a ≡ farEnd ends k v
+unfolding farEnd firstEnd secondEnd
+far-read-first ends k v a p n = simp (ne-eqb (getD ends (2 * k) 0) v (λ q. n (p ∙ q))) p
 
 -- ---- the second group has no loops
 

@@ -11,4 +11,5 @@ pub mod FillLaws
 pub mod IncidenceLaws
 pub mod Stretch
 pub mod Walk
+pub mod StretchLaws
 pub mod Color

@@ -1,7 +1,9 @@
-// The stretch of the entries that holds one node's edges.
-use crate::NodeIndex;
+// One node's edges in the table, and an edge's far end.
+use crate::{EdgeIndex, NodeIndex};
 ghost use mathlib.Core.Path.{_≡_};
 ghost use Prim.Native.Nat.{_+_, _*_};
+ghost use lib.ListN.{getD};
+ghost use Rattle.graph.specs.Edges.{farEnd};
 ghost use Rattle.graph.specs.Stretch.{stretch, stretchStart};
 
 // The edges at a node, as a part of the entries. Starts that do not cover the node, fall, or pass the entries' end give the
@@ -25,4 +27,28 @@ pub fn edges_at<'a>(starts: &[u16], entries: &'a [u16], node: NodeIndex) -> &'a 
         return &entries[0..0];
     }
     &entries[start..end]
+}
+
+// What stands at a place of the end list, 0 beyond it.
+fn end_at(ends: &[u16], place: usize) -> NodeIndex
+    ensures { λ r. ⌜ r .0 ≡ getD (now (ends .entry)) place 0 ⌝ }
+{
+    if place < ends.len() {
+        NodeIndex(ends[place])
+    } else {
+        NodeIndex(0)
+    }
+}
+
+// The end of an edge that the node is not; for a loop, the node again.
+pub fn far_end(ends: &[u16], edge: EdgeIndex, node: NodeIndex) -> NodeIndex
+    ensures { λ r. ⌜ r .0 ≡ farEnd (now (ends .entry)) (edge .0) (node .0) ⌝ }
+{
+    let k = edge.0 as usize;
+    let first = end_at(ends, 2 * k);
+    if first.0 == node.0 {
+        end_at(ends, 2 * k + 1)
+    } else {
+        first
+    }
 }

@@ -3,12 +3,15 @@ ghost use mathlib.Core.Path.{_≡_};
 ghost use Rattle.graph.specs.Report.{number};
 
 mod check;
+mod colors;
 mod edges;
 mod table;
 pub mod walk;
 
 pub use check::check_graph;
+pub use colors::days_of;
 pub use edges::edges_at;
+pub use edges::far_end;
 pub use table::incidence;
 pub use walk::edge_at;
 pub use walk::EdgeWalk;

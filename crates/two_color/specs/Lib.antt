@@ -3,3 +3,5 @@ pub mod Odd
 pub mod Walk
 pub mod Sides
 pub mod SideLaws
+pub mod TwoColor
+pub mod Queue

@@ -1,0 +1,34 @@
+-- The outcome of two_color, and what the proof printer relies on.
+use Prim.Native.Nat.{ℕ, _≤_, _<_}
+use mathlib.Core.Path.{_≡_}
+use mathlib.Core.Logic.{_≢_}
+use mathlib.Core.List.{List, [], _∷_, _++_}
+use mathlib.Core.Option.{none}
+use lib.ListN.{length, getD}
+use Rattle.graph.specs.Report.{Report, accepted, refused}
+use Rattle.graph.specs.Check.{Check, _gives_, firstRefusal, graphChecks, lengthCheck}
+use Rattle.graph.specs.Edges.{edgeCount, firstEnd, secondEnd}
+use Rattle.graph.specs.Color.{Outcome, colored}
+use Rattle.two_color.specs.Walk.{Walk, OddClosedWalk}
+use Rattle.two_color.specs.Sides.{oddCycle, sides}
+
+-- "graph checks, then 5 unless the colour slice (bytes) has length n"
+unfoldable pub inputChecks : ℕ → List ℕ → List ℕ → List Check
+inputChecks n ends colors = graphChecks n ends ++ lengthCheck (length colors) n ∷ []
+
+-- "then 8, an odd closed walk exists"
+unfoldable pub twoColor : ℕ → List ℕ → List ℕ → Outcome
+twoColor n ends colors =
+    let m = edgeCount ends in
+    colored (inputChecks n ends colors ++ (oddCycle ends m gives 8) ∷ []) colors (sides ends m n)
+
+-- What the proof printer relies on: "a plain no where it can't be done", and two ink passes that part every edge where it can.
+pub record ProofPrinter (n : ℕ) (ends lent : List ℕ) (report : Report ℕ) (colors : List ℕ) : Type 0 where
+  -- 8 is said only where the other checks pass and an odd closed walk exists,
+  pub no : report ≡ refused 8 → (firstRefusal (inputChecks n ends lent) ≡ none) × OddClosedWalk ends (edgeCount ends)
+  -- and wherever they do.
+  pub cannot : firstRefusal (inputChecks n ends lent) ≡ none → OddClosedWalk ends (edgeCount ends) → report ≡ refused 8
+  -- Where the call accepts, the ends of every edge have different colours,
+  pub differ : (days : ℕ) → report ≡ accepted days → (k : ℕ) → k < edgeCount ends → getD colors (firstEnd ends k) 0 ≢ getD colors (secondEnd ends k) 0
+  -- and the lowest node of each component, from which no walk leads to a lower one, has 1.
+  pub lowest : (days : ℕ) → report ≡ accepted days → (v : ℕ) → v < n → ((u l : ℕ) → Walk ends (edgeCount ends) v u l → v ≤ u) → getD colors v 0 ≡ 1

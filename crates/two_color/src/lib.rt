@@ -1,0 +1,1 @@
+// The two-colouring of a graph.
