@@ -11,5 +11,6 @@ pub mod FillLaws
 pub mod IncidenceLaws
 pub mod Stretch
 pub mod Walk
+pub mod WalkLaws
 pub mod StretchLaws
 pub mod Color

@@ -2,10 +2,11 @@
 use Prim.Native.Nat.{ℕ, zero, suc, _+_, _-_, _≤_, _<_}
 use mathlib.Core.Path.{_≡_, refl, ap, _∙_}
 use mathlib.Core.Logic.{_⊎_, inl, inr}
-use mathlib.Core.List.{List, [], _∷_, _++_}
+use native.Mathlib.Numerals.{add-one}
+use mathlib.Core.List.{append-nil, List, [], _∷_, _++_}
 use native.Mathlib.Omega.{arith}
-use lib.ListN.{length, set, take, drop, length-set, length-drop}
-use lib.Seq.{drop-cons, drop-set-lt, drop-set-add, take-set-le, getD-set-same, length-take-le, take-add, drop-drop}
+use lib.ListN.{getD, drop-of-length-le, length, set, take, drop, length-set, length-drop}
+use lib.Seq.{set-at, take-suc, take-all, append-snoc, drop-cons, drop-set-lt, drop-set-add, take-set-le, getD-set-same, length-take-le, take-add, drop-drop}
 
 -- The numbers from place a up to, not including, place e: Rattle's `&l[a..e]`.
 abbrev pub part : List ℕ → ℕ → ℕ → List ℕ
@@ -41,3 +42,12 @@ part-join l a b c h k =
 
 pub length-part : (l : List ℕ) (a e : ℕ) → a ≤ e → e ≤ length l → length (part l a e) ≡ e - a
 length-part l a e h k = length-take-le (e - a) (drop a l) (rw (length-drop a l) (omega arith))
+
+-- A copy from the front: the first i numbers of s over those of d.
+pub copied-more : (s d c : List ℕ) (i : ℕ) → c ≡ take i s ++ drop i d → i < length s → length d ≡ length s → set c i (getD s i 0) ≡ take (i + 1) s ++ drop (i + 1) d
+copied-more s d c i e h l =
+    let t : length (take i s) ≡ i = length-take-le i s (omega arith) in
+    rw (e, add-one i, drop-cons d i 0 (omega arith), set-at (take i s) (getD d i 0) (drop (suc i) d) (getD s i 0) i t, take-suc s i 0 h, append-snoc)
+
+pub copied-all : (s d c : List ℕ) (i : ℕ) → c ≡ take i s ++ drop i d → length s ≤ i → length d ≡ length s → c ≡ s
+copied-all s d c i e h l = rw (e, take-all i s h, drop-of-length-le d (let b : length d ≤ i = omega arith in b)) (append-nil s)

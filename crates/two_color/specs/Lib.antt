@@ -5,3 +5,4 @@ pub mod Sides
 pub mod SideLaws
 pub mod TwoColor
 pub mod Queue
+pub mod Search

@@ -44,7 +44,7 @@ pub record Grown (colors queue : List ℕ) (tail : ℕ) (colors′ queue′ : Li
 pub grown-none : (colors queue : List ℕ) (tail : ℕ) → Grown colors queue tail colors queue tail
 grown-none colors queue tail = record { kept = λ v h. refl; front = λ i h. refl; longer = omega arith; size = refl; queue-size = refl }
 
-grown-has : {colors queue colors′ queue′ : List ℕ} {tail tail′ : ℕ} → Grown colors queue tail colors′ queue′ tail′ → (v : ℕ) → Has colors v → Has colors′ v
+pub grown-has : {colors queue colors′ queue′ : List ℕ} {tail tail′ : ℕ} → Grown colors queue tail colors′ queue′ tail′ → (v : ℕ) → Has colors v → Has colors′ v
 grown-has g v h = (omega (arith, g .size, h .0), λ e. h .1 (sym (g .kept v h) ∙ e))
 
 pub grown-more : {a q b r c s : List ℕ} {i j k : ℕ} → Grown a q i b r j → Grown b r j c s k → Grown a q i c s k
@@ -81,6 +81,13 @@ module _ (ends : List ℕ) (m : ℕ) (colors queue : List ℕ) (tail : ℕ) (que
       let e = sym (getD-take tail queue (r .0) 0 b) ∙ r .2 in
       n (rw e at (queued .members (r .0) b))
 
+  queued-below : (k : ℕ) → Mem k (take tail queue) → k < length colors
+  queued-below k p =
+      let r = place-of k (take tail queue) 0 p in
+      let b : r .0 < tail = omega (arith, r .1, length-take-le tail queue (queued .within)) in
+      let q = sym (getD-take tail queue (r .0) 0 b) ∙ r .2 in
+      rw q at (queued .members (r .0) b .0)
+
   -- A node without a colour finds room in the queue.
   pub queue-room : (v : ℕ) → v < length colors → getD colors v 0 ≡ 65535 → tail < length queue
   queue-room v h e =
@@ -90,11 +97,11 @@ module _ (ends : List ℕ) (m : ℕ) (colors queue : List ℕ) (tail : ℕ) (que
     where
       below : (k : ℕ) → Mem k (v ∷ take tail queue) → k < length colors
       below k (inl p) = omega arith
-      below k (inr p) =
-          let r = place-of k (take tail queue) 0 p in
-          let b : r .0 < tail = omega (arith, r .1, length-take-le tail queue (queued .within)) in
-          let q = sym (getD-take tail queue (r .0) 0 b) ∙ r .2 in
-          rw q at (queued .members (r .0) b .0)
+      below k (inr p) = queued-below k p
+
+  -- No more nodes are queued than there are.
+  pub queue-bound : tail ≤ length colors
+  queue-bound = rw (length-take-le tail queue (queued .within)) at (nodup-bound (length colors) (take tail queue) (queued .once) queued-below)
 
   module _ (v c : ℕ) (h : v < length colors) (e : getD colors v 0 ≡ 65535) (b : c ≤ 1) where
     pushed-same : getD (set colors v c) v 0 ≡ c
@@ -147,7 +154,7 @@ module _ (ends : List ℕ) (m : ℕ) (colors queue : List ℕ) (tail : ℕ) (que
   -- ---- an edge k at a coloured node v, its far end w
 
   module _ (v k : ℕ) (has : Has colors v) (below : k < m) (at : At ends k v) where
-    far-inside : farEnd ends k v < length colors
+    pub far-inside : farEnd ends k v < length colors
     far-inside = elim (far-at ends k v at) [ inl p ↦ rw (← p) (queued .inside k below .0) | inr p ↦ rw (← p) (queued .inside k below .1) ]
 
     -- The far end has the same colour: an odd closed walk exists.

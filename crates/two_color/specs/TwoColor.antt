@@ -32,3 +32,7 @@ pub record ProofPrinter (n : ℕ) (ends lent : List ℕ) (report : Report ℕ) (
   pub differ : (days : ℕ) → report ≡ accepted days → (k : ℕ) → k < edgeCount ends → getD colors (firstEnd ends k) 0 ≢ getD colors (secondEnd ends k) 0
   -- and the lowest node of each component, from which no walk leads to a lower one, has 1.
   pub lowest : (days : ℕ) → report ≡ accepted days → (v : ℕ) → v < n → ((u l : ℕ) → Walk ends (edgeCount ends) v u l → v ≤ u) → getD colors v 0 ≡ 1
+
+-- The outcome where the other checks pass.
+unfoldable pub sidesOutcome : ℕ → List ℕ → List ℕ → Outcome
+sidesOutcome n ends colors = colored ((oddCycle ends (edgeCount ends) gives 8) ∷ []) colors (sides ends (edgeCount ends) n)

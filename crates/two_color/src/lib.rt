@@ -1,1 +1,69 @@
-// The two-colouring of a graph.
+// Two colours for the nodes of a graph, so that neighbours differ, or a plain no.
+ghost use mathlib.Core.Path.{_≡_};
+ghost use mathlib.Core.Bool.{true};
+ghost use Prim.Native.Nat.{ℕ, _≤_, _<_};
+ghost use lib.ListN.{length, getD};
+ghost use Rattle.graph.specs.Report.{reportOfColoring};
+ghost use Rattle.graph.specs.CheckLaws.{Passed};
+ghost use Rattle.graph.specs.Edges.{edgeCount};
+ghost use Rattle.graph.specs.Color.{colored};
+ghost use Rattle.graph.specs.Check.{_gives_};
+ghost use Rattle.two_color.specs.TwoColor.{twoColor, sidesOutcome, ProofPrinter};
+use graph::check_graph;
+use graph::days_of;
+use graph::Checked;
+use graph::Color;
+use graph::Coloring;
+use graph::Refusal;
+
+mod search;
+
+// The colours as bytes.
+fn copy_out(sides: &[u16], colors: &mut [u8])
+    requires { ⌜ (length (now colors) ≡ length (now sides)) × ((i : ℕ) → i < length (now sides) → getD (now sides) i 0 ≤ 1) ⌝ }
+    ensures { λ _. ⌜ now (colors .exit) ≡ now (sides .entry) ⌝ }
+{
+    let mut i = 0;
+    while i < sides.len() {
+        colors[i] = sides[i] as u8;
+        i += 1;
+    }
+}
+
+// A graph that passed the checks, and a place for each node.
+fn color_checked(n: usize, ends: &[u16], colors: &mut [u8]) -> Coloring
+    requires { ⌜ Passed n (now ends) ⌝ }
+    requires { ⌜ length (now colors) ≡ n ⌝ }
+    ensures { λ r. ⌜ reportOfColoring r ≡ sidesOutcome n (now (ends .entry)) (now (colors .entry)) .report ⌝ }
+    ensures { λ _. ⌜ now (colors .exit) ≡ sidesOutcome n (now (ends .entry)) (now (colors .entry)) .colors ⌝ }
+{
+    let mut starts = [0u16; 513];
+    let mut entries = [0u16; 8192];
+    let mut sides = [Color::NONE; 512];
+    let mut queue = [0u16; 512];
+    if search::color_nodes(n, ends, &mut starts[..n + 1], &mut entries[..ends.len()], &mut sides[..n], &mut queue) {
+        copy_out(&sides[..n], colors);
+        Coloring::Accepted { days: days_of(&sides[..n]) }
+    } else {
+        Coloring::Refused(Refusal::OddClosedWalk)
+    }
+}
+
+// The lowest node of each component gets 1, neighbours get the other of 0 and 1.
+pub fn two_color(n: usize, ends: &[u16], colors: &mut [u8]) -> Coloring
+    ensures { λ r. ⌜ reportOfColoring r ≡ twoColor n (now (ends .entry)) (now (colors .entry)) .report ⌝ }
+    ensures { λ _. ⌜ now (colors .exit) ≡ twoColor n (now (ends .entry)) (now (colors .entry)) .colors ⌝ }
+    ensures printer { λ r. ⌜ ProofPrinter n (now (ends .entry)) (now (colors .entry)) (reportOfColoring r) (now (colors .exit)) ⌝ }
+{
+    match check_graph(n, ends) {
+        Checked::Refused(refusal) => {
+            return Coloring::Refused(refusal);
+        }
+        Checked::Accepted(graph) => {
+            if colors.len() != graph.nodes {
+                return Coloring::Refused(Refusal::WrongLength);
+            }
+            color_checked(n, ends, colors)
+        }
+    }
+}
