@@ -10,7 +10,7 @@ use lib.ListN.{length, getD}
 use lib.Dec.{ltb, eqb}
 use borrow.Author.Tests.{lt-ltb, le-ltb, eq-eqb, ne-eqb, ltb-false, eqb-false}
 use Rattle.lists.specs.Tests.{by-test}
-use Rattle.lists.specs.Search.{allBelow, all-below-at}
+use Rattle.lists.specs.Search.{allBelow, all-below-at, below-all}
 use Rattle.graph.specs.Report.{accepted, refused, number, reportOfChecked}
 use Rattle.graph.specs.Check.{Check, _gives_, firstRefusal, answered, written, graphChecks, checkGraph}
 use Rattle.graph.specs.Edges.{edgeCount, firstEnd, secondEnd}
@@ -102,6 +102,12 @@ passed n ends e =
     by-test (allBelow n ends)
     (λ t₄. let o = eqb-false (length ends % 2) 1 t₂ in let h = ltb-false 8192 (length ends) t₃ in record { nodes = ltb-false _ _ t₁; even = omega arith; edges = omega arith; inside = all-below-at n ends t₄ })
     (λ t. let z : _≡_ {A = ℕ} 0 1 = cc (simp (t₁, t₂, t₃, t) at e) in absurd (omega arith)))))
+
+pub passes : (n : ℕ) (ends : List ℕ) → Passed n ends → firstRefusal (graphChecks n ends) ≡ none
+unfolding graphChecks firstRefusal
+passes n ends p =
+    let e = p .even in
+    simp (le-ltb 512 n (p .nodes), ne-eqb (length ends % 2) 1 (λ q. omega arith), le-ltb 8192 (length ends) (omega (arith, p .edges)), below-all n ends (p .inside))
 
 -- Both ends of every edge are below n.
 pub passed-inside : (n : ℕ) (ends : List ℕ) → Passed n ends → (k : ℕ) → k < edgeCount ends → (firstEnd ends k < n) × (secondEnd ends k < n)

@@ -1,11 +1,11 @@
 -- Parts of a list: what a store outside a part, or right before it, does to the part.
-use Prim.Native.Nat.{ℕ, zero, suc, _+_, _-_, _≤_, _<_}
-use mathlib.Core.Path.{_≡_, refl, ap, _∙_}
+use Prim.Native.Nat.{zero, ℕ, zero, suc, _+_, _-_, _≤_, _<_}
+use mathlib.Core.Path.{refl, _≡_, refl, ap, _∙_}
 use mathlib.Core.Logic.{_⊎_, inl, inr}
-use native.Mathlib.Numerals.{add-one}
 use mathlib.Core.List.{append-nil, List, [], _∷_, _++_}
+use native.Mathlib.Numerals.{add-one}
 use native.Mathlib.Omega.{arith}
-use lib.ListN.{getD, drop-of-length-le, length, set, take, drop, length-set, length-drop}
+use lib.ListN.{replicate, getD, drop-of-length-le, length, set, take, drop, length-set, length-drop}
 use lib.Seq.{set-at, take-suc, take-all, append-snoc, drop-cons, drop-set-lt, drop-set-add, take-set-le, getD-set-same, length-take-le, take-add, drop-drop}
 
 -- The numbers from place a up to, not including, place e: Rattle's `&l[a..e]`.
@@ -51,3 +51,8 @@ copied-more s d c i e h l =
 
 pub copied-all : (s d c : List ℕ) (i : ℕ) → c ≡ take i s ++ drop i d → length s ≤ i → length d ≡ length s → c ≡ s
 copied-all s d c i e h l = rw (e, take-all i s h, drop-of-length-le d (let b : length d ≤ i = omega arith in b)) (append-nil s)
+
+pub take-replicate : (n k x : ℕ) → n ≤ k → take n (replicate k x) ≡ replicate n x
+take-replicate zero k x h = refl
+take-replicate (suc n) zero x h = let z : ⊥ = omega arith in absurd z
+take-replicate (suc n) (suc k) x h = ap (λ (l : List ℕ). x ∷ l) (take-replicate n k x (omega arith))

@@ -11,7 +11,7 @@ use lib.ListN.{length, getD, drop, drop-of-length-le}
 use lib.Seq.{drop-cons}
 use lib.Dec.{ltb}
 use borrow.Author.Tests.{lt-ltb, le-ltb, ltb-true}
-use Rattle.lists.specs.Tests.{dec-eq, and-true, or-false}
+use Rattle.lists.specs.Tests.{true-and, dec-eq, and-true, or-false}
 
 -- Whether each number is below n.
 unfoldable pub allBelow : ℕ → List ℕ → Bool
@@ -23,6 +23,11 @@ unfolding allBelow
 all-below-at n [] e i h = absurd (not-suc-le-zero h)
 all-below-at n (x ∷ xs) e zero h = ltb-true x n (and-true (ltb x n) (allBelow n xs) e .0)
 all-below-at n (x ∷ xs) e (suc i) h = all-below-at n xs (and-true (ltb x n) (allBelow n xs) e .1) i (omega arith)
+
+pub below-all : (n : ℕ) (xs : List ℕ) → ((i : ℕ) → i < length xs → getD xs i 0 < n) → allBelow n xs ≡ true
+unfolding allBelow
+below-all n [] h = refl
+below-all n (x ∷ xs) h = true-and (ltb x n) (allBelow n xs) (lt-ltb x n (h 0 (omega arith))) (below-all n xs (λ i b. h (suc i) (omega arith)))
 
 -- A search from the front: a number below n does not decide, one that is n or more does, and so does the end.
 pub all-below-next : (n : ℕ) (s : List ℕ) (i : ℕ) {r : Bool} → allBelow n (drop i s) ≡ r → i < length s → getD s i 0 < n → allBelow n (drop (i + 1) s) ≡ r

@@ -6,3 +6,4 @@ pub mod SideLaws
 pub mod TwoColor
 pub mod Queue
 pub mod Search
+pub mod TwoColorLaws

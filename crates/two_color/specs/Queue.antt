@@ -1,18 +1,17 @@
 -- The colouring in progress: a queue of the nodes that are coloured, each once, whose front part has been visited.
-use Prim.Native.Nat.{ℕ, zero, suc, _+_, _-_, _≤_, _<_}
+use Prim.Native.Nat.{ℕ, _+_, _-_, _≤_, _<_}
 use mathlib.Core.Path.{_≡_, refl, sym, ap, _∙_}
-use mathlib.Core.Logic.{_⊎_, inl, inr, _≢_}
-use mathlib.Core.List.{List, [], _∷_, _++_}
-use mathlib.Core.Bool.{Bool, true, false}
+use mathlib.Core.Logic.{inl, inr, _≢_}
+use mathlib.Core.List.{List, [], _∷_}
+use mathlib.Core.Bool.{true, false}
 use native.Mathlib.Omega.{arith}
-use native.Mathlib.Nat.{not-suc-le-zero}
 use native.Mathlib.Numerals.{add-one}
 use lib.ListN.{length, getD, set, take, length-set}
 use lib.Seq.{getD-set-same, getD-set-other, getD-take, take-suc-set, ext-getD, length-take-le}
 use Rattle.lists.specs.Tests.{by-test, dec-eq}
-use Rattle.lists.specs.Member.{Mem, Nodup, mem-append, nodup-append, mem-getD, place-of, nodup-bound}
+use Rattle.lists.specs.Member.{Mem, Nodup, nodup-append, place-of, nodup-bound}
 use Rattle.graph.specs.Edges.{firstEnd, secondEnd, farEnd}
-use Rattle.graph.specs.EdgeLaws.{At, far-first, far-at, far-far}
+use Rattle.graph.specs.EdgeLaws.{At, far-first, far-at}
 use Rattle.graph.specs.TableLaws.{Inside}
 use Rattle.two_color.specs.Walk.{Walk, stay, along}
 use Rattle.two_color.specs.Sides.{lowest, oddCycle, sideColor, sides}

@@ -41,7 +41,7 @@ fn color_checked(n: usize, ends: &[u16], colors: &mut [u8]) -> Coloring
     let mut entries = [0u16; 8192];
     let mut sides = [Color::NONE; 512];
     let mut queue = [0u16; 512];
-    if search::color_nodes(n, ends, &mut starts[..n + 1], &mut entries[..ends.len()], &mut sides[..n], &mut queue) {
+    if search::color_nodes(n, ends, &mut starts, &mut entries, &mut sides, &mut queue) {
         copy_out(&sides[..n], colors);
         Coloring::Accepted { days: days_of(&sides[..n]) }
     } else {

@@ -2,7 +2,7 @@
 ghost use mathlib.Core.Path.{_≡_};
 ghost use mathlib.Core.Bool.{Bool, true, false};
 ghost use Prim.Native.Nat.{ℕ, suc, _+_, _-_, _≤_, _<_};
-ghost use lib.ListN.{length, getD, replicate};
+ghost use lib.ListN.{length, getD, take, replicate};
 ghost use Rattle.graph.specs.CheckLaws.{Passed};
 ghost use Rattle.graph.specs.Edges.{edgeCount, edgesAt};
 ghost use Rattle.graph.specs.EdgeLaws.{At};
@@ -151,14 +151,14 @@ fn color_components(n: usize, ends: &[u16], starts: &[u16], entries: &[u16], col
     true
 }
 
-// The table is made in the lent slices; the colours are those of `sides` where the answer is true.
+// The table is made in the lent slices; where the answer is true the first n colours are those of `sides`.
 pub fn color_nodes(n: usize, ends: &[u16], starts: &mut [u16], entries: &mut [u16], colors: &mut [u16], queue: &mut [u16]) -> bool
     requires { ⌜ Passed n (now ends) ⌝ }
-    requires { ⌜ (length (now starts) ≡ n + 1) × (length (now entries) ≡ length (now ends)) ⌝ }
-    requires { ⌜ (now colors ≡ replicate n 65535) × (n ≤ length (now queue)) ⌝ }
-    ensures { λ r. ⌜ (r ≡ true → (oddCycle (now (ends .entry)) (edgeCount (now (ends .entry))) ≡ false) × (now (colors .exit) ≡ sides (now (ends .entry)) (edgeCount (now (ends .entry))) n))
+    requires { ⌜ (length (now starts) ≡ 513) × (length (now entries) ≡ 8192) ⌝ }
+    requires { ⌜ (now colors ≡ replicate 512 65535) × (length (now queue) ≡ 512) ⌝ }
+    ensures { λ r. ⌜ (r ≡ true → (oddCycle (now (ends .entry)) (edgeCount (now (ends .entry))) ≡ false) × (take n (now (colors .exit)) ≡ sides (now (ends .entry)) (edgeCount (now (ends .entry))) n))
         × (r ≡ false → oddCycle (now (ends .entry)) (edgeCount (now (ends .entry))) ≡ true) ⌝ }
 {
-    incidence(n, ends, starts, entries);
-    color_components(n, ends, starts, entries, colors, queue)
+    incidence(n, ends, &mut starts[..n + 1], &mut entries[..ends.len()]);
+    color_components(n, ends, starts, entries, &mut colors[..n], queue)
 }

@@ -1,21 +1,16 @@
-use Prim.Native.Nat.{_-_}
-use lib.ListN.{length}
-use Rattle.graph.specs.Edges.{edgeCount, edgesAt}
-use Rattle.graph.specs.WalkLaws.{step-end, step-edge}
-use Rattle.two_color.specs.Search.{NodeProgress, node-none, node-edge, node-more, node-done}
+-- `visit_node` meets its contract. The invariant: the edges passed have been visited.
+use Prim.Native.Nat.{_-_, ℕ}
 use mathlib.Core.Path.{ap, _∙_}
 use mathlib.Core.List.{List}
-use Prim.Native.Nat.{ℕ}
-use Rattle.graph.specs.Walk.{stepAt}
-use Rattle.two_color.specs.Search.{reaches-clash, reaches-tail}
-use borrow.Author.Needs.{needs}
 use native.Mathlib.Omega.{arith}
+use lib.ListN.{length}
+use borrow.Author.Needs.{needs}
+use Rattle.graph.specs.Edges.{edgeCount, edgesAt}
+use Rattle.graph.specs.WalkLaws.{step-end, step-edge}
+use Rattle.two_color.specs.Search.{NodeProgress, node-none, node-edge, node-more, node-done, reaches-clash, reaches-tail}
+use Rattle.graph.specs.Walk.{stepAt}
 use Rattle.two_color.proofs.search.visit_node.Statement.{statement}
 use Rattle.two_color.proofs.search.visit_node.Tie as tie
-use Rattle.two_color.proofs.search.visit_node.Reads as reads
-use Rattle.two_color.proofs.search.visit_node.Lts as lts
-use Rattle.graph.proofs.edge_at.Reads as edge-at-reads
-use Rattle.two_color.proofs.search.visit_edge.Reads as visit-edge-reads
 
 abbrev Inv-loop : tie.InvT-loop
 Inv-loop ends starts entries colors₀ queue₀ tail node reached₀ at₀ colors queue reached at = NodeProgress ends (node .0) colors₀ queue₀ tail colors queue reached at
@@ -26,51 +21,24 @@ abbrev μ-loop : tie.MeasureT-loop
 loop-holds : tie.Need-loop-holds Inv-loop μ-loop
 loop-holds c = node-none _ _ _ _ _ (c .before .before .before .before .before .pre .0) (c .before .before .before .before .before .pre .1 .0)
 
-edge-at-requires : tie.Need-edge-at-requires Inv-loop μ-loop
-edge-at-requires c κs = search needs
-
-enum-told : tie.Need-enum-told Inv-loop μ-loop
-enum-told c = search needs
-
-same-length : tie.Need-same-length Inv-loop μ-loop
-same-length c = search needs
-
-same-length-2 : tie.Need-same-length-2 Inv-loop μ-loop
-same-length-2 c = search needs
-
 returns : tie.Need-returns Inv-loop μ-loop
 returns c = reaches-tail (node-done _ _ _ _ _ _ _ _ _ (c .before .before .before .loop .inv) (step-end _ _ _ (c .before .before .edge-at .ensures ∙ ap (λ (l : List ℕ). stepAt l (c .before .before .before .loop .at)) (c .before .before .before .before .before .before .before .before .before .pre .1 .1)) (c .enum-told .given .1)))
 
-enum-known-edge : tie.Need-enum-known-edge Inv-loop μ-loop
-enum-known-edge c = search needs
-
 visit-edge-requires : tie.Need-visit-edge-requires Inv-loop μ-loop
-visit-edge-requires c κs = 
+visit-edge-requires c κs =
     let e = step-edge _ _ _ _ _ (c .before .before .before .before .before .edge-at .ensures ∙ ap (λ (l : List ℕ). stepAt l (c .before .before .before .before .before .before .loop .at)) (c .before .before .before .before .before .before .before .before .before .before .before .before .pre .1 .1)) (c .before .before .before .edge .given .1) in
     (c .before .before .before .before .before .before .loop .inv .queued, (c .before .before .before .before .before .before .loop .inv .has, node-edge _ _ _ _ _ _ _ _ _ (c .before .before .before .before .before .before .loop .inv) _ (e .0) (e .1)))
-
-enum-told-2 : tie.Need-enum-told-2 Inv-loop μ-loop
-enum-told-2 c = search needs
-
-same-length-3 : tie.Need-same-length-3 Inv-loop μ-loop
-same-length-3 c = search needs
-
-same-length-4 : tie.Need-same-length-4 Inv-loop μ-loop
-same-length-4 c = search needs
 
 returns-2 : tie.Need-returns-2 Inv-loop μ-loop
 returns-2 c = reaches-clash (c .before .before .before .before .before .before .visit-edge .ensures .clash (c .enum-told2 .given .1))
 
-enum-known-t : tie.Need-enum-known-t Inv-loop μ-loop
-enum-known-t c = search needs
-
 loop-less : tie.Need-loop-less Inv-loop μ-loop
-loop-less c = 
+loop-less c =
     let e = step-edge _ _ _ _ _ (c .before .before .before .before .before .before .before .before .before .before .before .before .before .edge-at .ensures ∙ ap (λ (l : List ℕ). stepAt l (c .before .before .before .before .before .before .before .before .before .before .before .before .before .before .loop .at)) (c .before .before .before .before .before .before .before .before .before .before .before .before .before .before .before .before .before .before .before .before .pre .1 .1)) (c .before .before .before .before .before .before .before .before .before .before .before .edge .given .1) in
     omega (arith, e .0, e .2)
 
 loop-again : tie.Need-loop-again Inv-loop μ-loop
-loop-again c = 
+loop-again c =
     let e = step-edge _ _ _ _ _ (c .before .before .before .before .before .before .before .before .before .before .before .before .before .edge-at .ensures ∙ ap (λ (l : List ℕ). stepAt l (c .before .before .before .before .before .before .before .before .before .before .before .before .before .before .loop .at)) (c .before .before .before .before .before .before .before .before .before .before .before .before .before .before .before .before .before .before .before .before .pre .1 .1)) (c .before .before .before .before .before .before .before .before .before .before .before .edge .given .1) in
     node-more _ _ _ _ _ _ _ _ _ (c .before .before .before .before .before .before .before .before .before .before .before .before .before .before .loop .inv) _ _ _ _ _ (e .0) (e .1) (e .2) (c .before .before .before .before .before .before .before .visit-edge .ensures .tail _ (c .before .t .given .1))
 
@@ -81,17 +49,12 @@ visit-node-spec =
     Inv-loop
     μ-loop
     loop-holds
-    edge-at-requires
-    enum-told
-    same-length
-    same-length-2
+    (λ c κs. search needs) (λ c. search needs) (λ c. search needs) (λ c. search needs)
     returns
-    enum-known-edge
+    (λ c. search needs)
     visit-edge-requires
-    enum-told-2
-    same-length-3
-    same-length-4
+    (λ c. search needs) (λ c. search needs) (λ c. search needs)
     returns-2
-    enum-known-t
+    (λ c. search needs)
     loop-less
     loop-again)
