@@ -1,0 +1,97 @@
+-- Demand 3 as one claim about a call and about what its run holds.
+use Prim.Native.Nat.{ℕ, zero, suc, _*_, _≤_, _<_, max}
+use mathlib.Core.Path.{_≡_}
+use mathlib.Core.Logic.{inl, inr, _≢_}
+use mathlib.Core.List.{List}
+use native.Mathlib.Omega.{arith}
+use native.Mathlib.Nat.{not-suc-le-zero}
+use native.Mathlib.Decide.{decLt}
+use lib.ListN.{length, getD, take}
+use Rattle.lists.specs.Tests.{dec-eq}
+use Rattle.graph.specs.Edges.{edgeCount, firstEnd, secondEnd, degree}
+use Rattle.graph.specs.CountLaws.{degree-bound}
+use Rattle.graph.specs.Report.{Report, accepted}
+use Rattle.graph.specs.Color.{Outcome}
+use Rattle.vizing.specs.MisraGries.{noColor, colorOf}
+use Rattle.vizing.specs.Simple.{Simple, Incident}
+
+-- ---- D
+
+-- "D is the greatest deg, 0 if there are no nodes."
+unfoldable pub maxDegree : List ℕ → ℕ → ℕ → ℕ
+maxDegree ends m zero = 0
+maxDegree ends m (suc v) = max (degree ends m v) (maxDegree ends m v)
+
+pub degree-max : (ends : List ℕ) (m n v : ℕ) → v < n → degree ends m v ≤ maxDegree ends m n
+unfolding maxDegree
+degree-max ends m zero v h = absurd (not-suc-le-zero h)
+degree-max ends m (suc n) v h = elim (dec-eq v n) [ inl p ↦ rw p (omega arith) | inr p ↦ omega (arith, degree-max ends m n v (omega arith)) ]
+
+pub max-degree-attained : (ends : List ℕ) (m n : ℕ) → 0 < n → (v : ℕ) × (v < n) × (degree ends m v ≡ maxDegree ends m n)
+unfolding maxDegree
+max-degree-attained ends m zero h = absurd (not-suc-le-zero h)
+max-degree-attained ends m (suc n) h = elim (decLt (degree ends m n) (maxDegree ends m n)) [
+  | yes less ↦ let r = max-degree-attained ends m n (some-node n less) in (r .0, omega (arith, r .1), omega (arith, r .2))
+  | no more ↦ (n, omega arith, omega arith)
+]
+  where
+    some-node : (n : ℕ) → degree ends m n < maxDegree ends m n → 0 < n
+    some-node zero less = absurd (not-suc-le-zero less)
+    some-node (suc n) less = omega arith
+
+pub max-degree-bound : (ends : List ℕ) (m n : ℕ) → maxDegree ends m n ≤ m
+unfolding maxDegree
+max-degree-bound ends m zero = omega arith
+max-degree-bound ends m (suc v) = omega (arith, degree-bound ends m v, max-degree-bound ends m v)
+
+-- ---- the parts of the claim
+
+-- "all graphs up to 512 nodes and 4,096 edges, without loops or double edges, whatever order the edges are listed in and whichever end comes first"
+pub record Admitted (n : ℕ) (ends : List ℕ) : Type 0 where
+  pub nodes : n ≤ 512
+  pub even : length ends ≡ 2 * edgeCount ends
+  pub edges : edgeCount ends ≤ 4096
+  pub inside : (k : ℕ) → k < edgeCount ends → (firstEnd ends k < n) × (secondEnd ends k < n)
+  pub simple : Simple ends (edgeCount ends)
+
+-- "refuses none"
+abbrev pub Accepted : Report ℕ → Type 0
+Accepted report = (days : ℕ) × (report ≡ accepted days)
+
+-- The accuracy rule, of the colours of all edges. A place that is missing counts as 65,535.
+pub record Accurate (n : ℕ) (ends : List ℕ) (colors : List ℕ) : Type 0 where
+  -- "each edge gets one colour from 0 to D"
+  pub range : (k : ℕ) → k < edgeCount ends → colorOf colors k ≤ maxDegree ends (edgeCount ends) n
+  -- "edges sharing an end get different ones"
+  pub sharing : (i j v : ℕ) → Incident ends (edgeCount ends) i v → Incident ends (edgeCount ends) j v → i ≢ j → colorOf colors i ≢ colorOf colors j
+  -- "every node has one of these D + 1 colours left over": "no edge there has it in the answer"
+  pub leftOver : (v : ℕ) → v < n → (c : ℕ) × (c ≤ maxDegree ends (edgeCount ends) n) × ((k : ℕ) → Incident ends (edgeCount ends) k v → colorOf colors k ≢ c)
+
+-- A call gives an outcome for a node count, an end list and the lent colour slice.
+abbrev pub Call : Type 0
+Call = ℕ → List ℕ → List ℕ → Outcome
+
+-- What the run for a node count and an end list holds after its kth edge.
+abbrev pub Run : Type 0
+Run = ℕ → List ℕ → ℕ → List ℕ
+
+-- "The first k edges alone are a call of their own with the same n, the first 2k ends and k colour places."
+pub record FirstEdgesAlone (call : Call) (held : Run) (n : ℕ) (ends : List ℕ) (k : ℕ) : Type 0 where
+  pub accepts : (places : List ℕ) → length places ≡ k → Accepted (call n (take (2 * k) ends) places .report)
+  -- "its answer equals, place by place, places 0 to k - 1 of what the whole run holds after its kth edge"
+  pub same : (places : List ℕ) → length places ≡ k → call n (take (2 * k) ends) places .colors ≡ take k (held n ends k)
+  -- "places from k on then still hold 65,535"
+  pub later : (j : ℕ) → k ≤ j → j < 4096 → getD (held n ends k) j 0 ≡ noColor
+
+-- What demand 3 asks of the call on one list, lent these colour places.
+pub record Met (call : Call) (held : Run) (n : ℕ) (ends colors : List ℕ) : Type 0 where
+  pub accepts : Accepted (call n ends colors .report)
+  pub accurate : Accurate n ends (call n ends colors .colors)
+  -- "for every k from 0 to the number of edges"
+  pub first : (k : ℕ) → k ≤ edgeCount ends → FirstEdgesAlone call held n ends k
+
+-- ---- the claim
+
+-- "a single claim about every edge list that it admits and every k", "if lent one colour place for each edge"
+abbrev pub Demand3 : Call → Run → Type 0
+Demand3 call held = (n : ℕ) (ends colors : List ℕ) → Admitted n ends → length colors ≡ edgeCount ends → Met call held n ends colors

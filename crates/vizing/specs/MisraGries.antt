@@ -1,0 +1,192 @@
+-- Misra-Gries edge colouring as executable definitions, in the words of 01's steps 1 to 5.
+use Prim.Native.Nat.{ℕ, zero, suc, _+_, _*_}
+use mathlib.Core.List.{List, [], _∷_, _++_, map}
+use mathlib.Core.Option.{Option, none, some}
+use mathlib.Core.Bool.{Bool, true, false, not, _&&_, _||_, cond}
+use lib.ListN.{length, getD, set, take, replicate}
+use lib.Dec.{eqb, ltb}
+use Rattle.lists.specs.Member.{elem}
+use Rattle.lists.specs.Search.{any}
+use Rattle.graph.specs.Edges.{edgeCount, firstEnd, secondEnd, isLoop, farEnd, keep, edgesAt}
+use Rattle.graph.specs.Check.{Check, _gives_, graphChecks, lengthCheck}
+use Rattle.graph.specs.Color.{Outcome, colored, smallestFree}
+
+-- ---- colours in a working list
+
+-- "65,535 means none, in presets and in working lists"
+abbrev pub noColor : ℕ
+noColor = 65535
+
+-- The colour of edge k in the working list l.
+unfoldable pub colorOf : List ℕ → ℕ → ℕ
+colorOf l k = getD l k noColor
+
+unfoldable pub isColored : List ℕ → ℕ → Bool
+isColored l k = not (eqb (colorOf l k) noColor)
+
+-- The first of these edges that has colour c.
+unfoldable pub edgeOfColor : List ℕ → ℕ → List ℕ → Option ℕ
+edgeOfColor l c [] = none
+edgeOfColor l c (k ∷ ks) = elim (eqb (colorOf l k) c) [ true ↦ some k | false ↦ edgeOfColor l c ks ]
+
+abbrev pub isNone : Option ℕ → Bool
+isNone none = true
+isNone (some k) = false
+
+-- Colour c is free at the node whose edges these are: none of them has it.
+unfoldable pub isFree : List ℕ → List ℕ → ℕ → Bool
+isFree l ks c = isNone (edgeOfColor l c ks)
+
+-- Those of these edges that are coloured.
+unfoldable pub coloredEdges : List ℕ → List ℕ → List ℕ
+coloredEdges l [] = []
+coloredEdges l (k ∷ ks) = keep (isColored l k) k (coloredEdges l ks)
+
+-- "The smallest free colour at a node is the smallest that no coloured edge there has."
+unfoldable pub smallestFreeAt : List ℕ → List ℕ → ℕ
+smallestFreeAt l ks = smallestFree (map (colorOf l) (coloredEdges l ks))
+
+-- The colours cs stored at the places ks, one after the other.
+unfoldable pub store : List ℕ → List ℕ → List ℕ → List ℕ
+store l [] cs = l
+store l (k ∷ ks) [] = l
+store l (k ∷ ks) (c ∷ cs) = store (set l k c) ks cs
+
+-- ---- step 1: the fan
+
+-- Candidate k "isn't in the fan yet, is coloured, and [its] colour is free at the far end of the fan's last edge", whose edges are ks.
+unfoldable pub joins : List ℕ → List ℕ → List ℕ → ℕ → Bool
+joins l ks fan k = not (elem k fan) && (isColored l k && isFree l ks (colorOf l k))
+
+-- "the first candidate that" does
+unfoldable pub firstJoining : List ℕ → List ℕ → List ℕ → List ℕ → Option ℕ
+firstJoining l ks fan [] = none
+firstJoining l ks fan (k ∷ candidates) = elim (joins l ks fan k) [ true ↦ some k | false ↦ firstJoining l ks fan candidates ]
+
+module _ (ends : List ℕ) (m : ℕ) where
+  -- "Repeatedly the first candidate that .. joins the fan, until none does": what joins at u after the edges of `fan`, whose last edge has far end x.
+  -- "Candidates are u's other edges in incidence order." Each joins once, so 4,096 turns are enough.
+  unfoldable pub growFan : ℕ → List ℕ → ℕ → List ℕ → ℕ → List ℕ
+  growFan zero l u fan x = []
+  growFan (suc fuel) l u fan x =
+      elim (firstJoining l (edgesAt ends m x) fan (edgesAt ends m u)) [
+        | none ↦ []
+        | some k ↦ k ∷ growFan fuel l u (k ∷ fan) (farEnd ends k u)
+      ]
+
+-- The far end at u of the last of these edges, or x if there is none.
+unfoldable pub lastFarEnd : List ℕ → ℕ → ℕ → List ℕ → ℕ
+lastFarEnd ends u x [] = x
+lastFarEnd ends u x (k ∷ ks) = lastFarEnd ends u (farEnd ends k u) ks
+
+-- ---- step 3: the path and the exchange
+
+module _ (ends : List ℕ) (m : ℕ) where
+  -- "The path .. follows colours d, c, d, and so on as far as it goes": from v along p, q, p. No node comes twice, so n turns are enough.
+  unfoldable pub path : ℕ → List ℕ → ℕ → ℕ → ℕ → List ℕ
+  path zero l v p q = []
+  path (suc fuel) l v p q = elim (edgeOfColor l p (edgesAt ends m v)) [ none ↦ [] | some k ↦ k ∷ path fuel l (farEnd ends k v) q p ]
+
+-- c and d exchanged.
+unfoldable pub swap : ℕ → ℕ → ℕ → ℕ
+swap c d x = cond (eqb x c) d (cond (eqb x d) c x)
+
+-- "Its edges exchange c and d": all colours are read before any is stored.
+unfoldable pub exchange : List ℕ → ℕ → ℕ → List ℕ → List ℕ
+exchange l c d ks = store l ks (map (λ (k : ℕ). swap c d (colorOf l k)) ks)
+
+-- ---- step 4: w
+
+module _ (ends : List ℕ) (m : ℕ) where
+  -- "w is the first fan place whose far end now has d free": the fan's edges after its first up to place w; place 0 has far end x.
+  unfoldable pub placesTo : List ℕ → ℕ → ℕ → ℕ → List ℕ → List ℕ
+  placesTo l d u x [] = []
+  placesTo l d u x (k ∷ ks) = elim (isFree l (edgesAt ends m x) d) [ true ↦ [] | false ↦ k ∷ placesTo l d u (farEnd ends k u) ks ]
+
+-- ---- step 5: the rotation
+
+-- "Each fan place below w takes the colour of the next, place w takes d; all are read before any is stored": places 0 to w are k ∷ ks.
+unfoldable pub rotate : List ℕ → ℕ → List ℕ → ℕ → List ℕ
+rotate l k ks d = store l (k ∷ ks) (map (colorOf l) ks ++ (d ∷ []))
+
+-- ---- the step of one edge
+
+-- What steps 1 to 4 find: the fan after its first edge, c, d, the path, the list with the path exchanged, and the fan's places 1 to w.
+pub record Found : Type 0 where
+  pub fan : List ℕ
+  pub c : ℕ
+  pub d : ℕ
+  pub path : List ℕ
+  pub exchanged : List ℕ
+  pub places : List ℕ
+
+-- "A tally (edges coloured, greatest colour that any edge now has; both 0 before the first edge)"
+pub record Tally : Type 0 where
+  pub edges : ℕ
+  pub greatest : ℕ
+
+-- The greatest colour that any edge has, 0 if none has one.
+unfoldable pub greatestColor : List ℕ → ℕ
+greatestColor [] = 0
+greatestColor (c ∷ cs) = cond (ltb (greatestColor cs) c && not (eqb c noColor)) c (greatestColor cs)
+
+-- The working list and the tally, carried together from edge to edge.
+pub record Held : Type 0 where
+  pub list : List ℕ
+  pub tally : Tally
+
+module _ (ends : List ℕ) (m n : ℕ) where
+  -- Steps 1 to 4 for edge k, "u first end, v second".
+  unfoldable pub find : List ℕ → ℕ → Found
+  find l k =
+      let u = firstEnd ends k in
+      let v = secondEnd ends k in
+      let F = growFan ends m 4096 l u (k ∷ []) v in
+      let c = smallestFreeAt l (edgesAt ends m u) in
+      let d = smallestFreeAt l (edgesAt ends m (lastFarEnd ends u v F)) in
+      let P = path ends m n l u d c in
+      let l′ = exchange l c d P in
+      record { fan = F; c = c; d = d; path = P; exchanged = l′; places = placesTo ends m l′ d u v F }
+
+  -- Step 5.
+  unfoldable pub step : List ℕ → ℕ → List ℕ
+  step l k = let f = find l k in rotate (f .exchanged) k (f .places) (f .d)
+
+  -- "brings it up to date after each edge"
+  unfoldable pub stepHeld : Held → ℕ → Held
+  stepHeld h k = let l = step (h .list) k in record { list = l; tally = record { edges = suc (h .tally .edges); greatest = greatestColor l } }
+
+  -- "What it holds after its kth edge", and the tally beside it. "Starts from a working list of 4,096 colours, each 65,535 before the first edge."
+  unfoldable pub heldAfter : ℕ → Held
+  heldAfter zero = record { list = replicate 4096 noColor; tally = record { edges = 0; greatest = 0 } }
+  heldAfter (suc k) = stepHeld (heldAfter k) k
+
+-- The working list after k edges, in the incidence order of the whole list.
+unfoldable pub held : ℕ → List ℕ → ℕ → List ℕ
+held n ends k = heldAfter ends (edgeCount ends) n k .list
+
+-- ---- the call
+
+-- "6 if a loop exists"
+unfoldable pub hasLoop : List ℕ → ℕ → Bool
+hasLoop ends m = any (isLoop ends) m
+
+-- "a double edge has the same two ends as another, in either order"
+unfoldable pub sameEnds : List ℕ → ℕ → ℕ → Bool
+sameEnds ends i j =
+    (eqb (firstEnd ends i) (firstEnd ends j) && eqb (secondEnd ends i) (secondEnd ends j))
+    || (eqb (firstEnd ends i) (secondEnd ends j) && eqb (secondEnd ends i) (firstEnd ends j))
+
+-- "7 if a double edge exists"
+unfoldable pub hasDoubleEdge : List ℕ → ℕ → Bool
+hasDoubleEdge ends m = any (λ j. any (λ i. sameEnds ends i j) j) m
+
+-- "misra_gries_edge_color: graph checks, 5 unless the colour slice has length m, 6 if a loop exists, 7 if a double edge exists"
+unfoldable pub misraGriesChecks : ℕ → List ℕ → List ℕ → List Check
+misraGriesChecks n ends colors =
+    let m = edgeCount ends in
+    graphChecks n ends ++ lengthCheck (length colors) m ∷ (hasLoop ends m gives 6) ∷ (hasDoubleEdge ends m gives 7) ∷ []
+
+-- The first m colours of the working list after the last edge.
+unfoldable pub misraGries : ℕ → List ℕ → List ℕ → Outcome
+misraGries n ends colors = let m = edgeCount ends in colored (misraGriesChecks n ends colors) colors (take m (held n ends m))
