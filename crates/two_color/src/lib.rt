@@ -43,7 +43,8 @@ fn color_checked(n: usize, ends: &[u16], colors: &mut [u8]) -> Coloring
     let mut queue = [0u16; 512];
     if search::color_nodes(n, ends, &mut starts, &mut entries, &mut sides, &mut queue) {
         copy_out(&sides[..n], colors);
-        Coloring::Accepted { days: days_of(&sides[..n]) }
+        let days = days_of(&sides[..n]);
+        Coloring::Accepted { days }
     } else {
         Coloring::Refused(Refusal::OddClosedWalk)
     }
