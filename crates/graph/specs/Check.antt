@@ -13,7 +13,6 @@ pub data Check : Type 0 where
   _gives_ : Bool → ℕ → Check
 
 infixl 20 _gives_
-
 -- "Checks run over the whole input, in the order given": the number of the first that refuses.
 unfoldable pub firstRefusal : List Check → Option ℕ
 firstRefusal [] = none

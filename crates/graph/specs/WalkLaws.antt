@@ -29,6 +29,6 @@ step-end l at r p q = by-test (ltb at (length l))
 pub step-edge : (l : List ℕ) (at : ℕ) (r : WalkStep) (k : EdgeIndex) (next : ℕ) → r ≡ stepAt l at → r ≡ Edge k next → (at < length l) × (k .0 ≡ getD l at 0) × (next ≡ at + 1)
 step-edge l at r k next p q = by-test (ltb at (length l))
     (λ t. let e = sym q ∙ (p ∙ step-inside l at t) in
-        let i : k ≡ record { 0 = getD l at 0 } = cc in
-        (ltb-true at (length l) t, ap (λ (x : EdgeIndex). x .0) i, cc))
+    let i : k ≡ record { 0 = getD l at 0 } = cc in
+    (ltb-true at (length l) t, ap (λ (x : EdgeIndex). x .0) i, cc))
     (λ t. let e = step-outside l at t in let z : _≡_ {A = ℕ} 0 1 = cc in absurd (omega arith))

@@ -3,7 +3,9 @@ ghost use mathlib.Core.Path.{_≡_};
 ghost use Rattle.lists.specs.Search.{allBelow};
 ghost use Rattle.graph.specs.Report.{reportOfChecked};
 ghost use Rattle.graph.specs.Check.{checkGraph};
-use crate::{Checked, Graph, Refusal};
+use crate::Checked;
+use crate::Graph;
+use crate::Refusal;
 
 // Whether each end is below n.
 fn all_below(n: usize, ends: &[u16]) -> bool

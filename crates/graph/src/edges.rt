@@ -1,5 +1,6 @@
 // One node's edges in the table, and an edge's far end.
-use crate::{EdgeIndex, NodeIndex};
+use crate::EdgeIndex;
+use crate::NodeIndex;
 ghost use mathlib.Core.Path.{_≡_};
 ghost use Prim.Native.Nat.{_+_, _*_};
 ghost use lib.ListN.{getD};

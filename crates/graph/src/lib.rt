@@ -13,9 +13,9 @@ pub use colors::days_of;
 pub use edges::edges_at;
 pub use edges::far_end;
 pub use table::incidence;
-pub use walk::edge_at;
 pub use walk::EdgeWalk;
 pub use walk::WalkStep;
+pub use walk::edge_at;
 
 // A node's number; never taken for an edge's.
 pub struct NodeIndex(pub u16);

@@ -3,3 +3,4 @@ pub mod Tests
 pub mod Member
 pub mod Search
 pub mod Parts
+pub mod Tabulate

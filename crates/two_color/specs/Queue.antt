@@ -52,7 +52,7 @@ grown-more g h = record {
   front = λ n p. h .front n (omega (arith, g .longer)) ∙ g .front n p;
   longer = omega (arith, g .longer, h .longer);
   size = h .size ∙ g .size;
-  queue-size = h .queue-size ∙ g .queue-size
+  queue-size = h .queue-size ∙ g .queue-size;
 }
 
 -- The far end of edge k at v is coloured, and not as v is.
@@ -113,10 +113,13 @@ module _ (ends : List ℕ) (m : ℕ) (colors queue : List ℕ) (tail : ℕ) (que
     old-has u n p = (rw (length-set colors v c) at (p .0), λ q. p .1 (pushed-other u n ∙ q))
 
     new-has : (u : ℕ) → Has colors u → Has (set colors v c) u
-    new-has u p = (rw (length-set colors v c) (p .0), elim (dec-eq u v) [
-      | inl q ↦ absurd (p .1 (ap (λ (i : ℕ). getD colors i 0) q ∙ e))
-      | inr n ↦ λ q. p .1 (sym (pushed-other u n) ∙ q)
-    ])
+    new-has u p = (
+      rw (length-set colors v c) (p .0),
+      elim (dec-eq u v) [
+        | inl q ↦ absurd (p .1 (ap (λ (i : ℕ). getD colors i 0) q ∙ e))
+        | inr n ↦ λ q. p .1 (sym (pushed-other u n) ∙ q)
+      ],
+    )
 
     pub push-grown : Grown colors queue tail (set colors v c) (set queue tail v) (tail + 1)
     push-grown = record {
@@ -124,7 +127,7 @@ module _ (ends : List ℕ) (m : ℕ) (colors queue : List ℕ) (tail : ℕ) (que
       front = λ i p. getD-set-other queue tail i v 0 (λ q. omega arith);
       longer = omega arith;
       size = length-set colors v c;
-      queue-size = length-set queue tail v
+      queue-size = length-set queue tail v;
     }
 
     pub push-has : Has (set colors v c) v
@@ -147,7 +150,7 @@ module _ (ends : List ℕ) (m : ℕ) (colors queue : List ℕ) (tail : ℕ) (que
           ];
           once = rw (add-one tail, take-suc-set queue tail v room) (nodup-append (take tail queue) (v ∷ []) (queued .once) (λ q. q, tt) (λ k p q. elim q [ inl z ↦ not-queued v (λ p′. p′ .1 e) (rw z at p) | inr z ↦ z ]));
           two = λ u p. elim (dec-eq u v) [ inl q ↦ rw (q, pushed-same) b | inr n ↦ rw (pushed-other u n) (queued .two u (old-has u n p)) ];
-          right = λ f u p. elim (dec-eq u v) [ inl q ↦ rw (q, pushed-same) (right f) | inr n ↦ pushed-other u n ∙ queued .right f u (old-has u n p) ]
+          right = λ f u p. elim (dec-eq u v) [ inl q ↦ rw (q, pushed-same) (right f) | inr n ↦ pushed-other u n ∙ queued .right f u (old-has u n p) ];
         }
 
   -- ---- an edge k at a coloured node v, its far end w

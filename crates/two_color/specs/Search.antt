@@ -38,9 +38,11 @@ table-made n ends starts entries starts′ entries′ a b p l k e f =
     let made = incidence-made n ends starts entries p l k in
     let s : starts′ ≡ startsBelow ends m (suc n) = e ∙ made .0 in
     let t : entries′ ≡ over (entriesBelow ends m n) entries = f ∙ made .1 in
-    record { row = table-stretch ends m n (starts′ ++ a) (entries′ ++ b)
-      (sym (take-at starts′ a (suc n) (ap length s ∙ length-starts ends m (suc n)) ∙ s))
-      (sym (ap (λ (x : List ℕ). take (startOf ends m n) (x ++ b)) t ∙ (ap (take (startOf ends m n)) (append-assoc (entriesBelow ends m n) (drop (length (entriesBelow ends m n)) entries) b) ∙ take-at (entriesBelow ends m n) (drop (length (entriesBelow ends m n)) entries ++ b) (startOf ends m n) (sym (start-length ends m n))))) }
+    record {
+      row = table-stretch ends m n (starts′ ++ a) (entries′ ++ b)
+          (sym (take-at starts′ a (suc n) (ap length s ∙ length-starts ends m (suc n)) ∙ s))
+          (sym (ap (λ (x : List ℕ). take (startOf ends m n) (x ++ b)) t ∙ (ap (take (startOf ends m n)) (append-assoc (entriesBelow ends m n) (drop (length (entriesBelow ends m n)) entries) b) ∙ take-at (entriesBelow ends m n) (drop (length (entriesBelow ends m n)) entries ++ b) (startOf ends m n) (sym (start-length ends m n)))));
+    }
 
 -- What holds of an answer: one thing of a clash, another of the new tail.
 pub record Reaches (r : Reached) (clashed : Type 0) (reached : ℕ → Type 0) : Type 0 where
@@ -100,7 +102,7 @@ module _ (ends colors queue : List ℕ) (tail v k w : ℕ) (queued : Queued ends
         record {
           queued = push ends m colors queue tail queued w s edge-inside none b (λ t. e ∙ (other-right ends m colors queue tail queued v k has (edge .0) (edge .1) t ∙ ap (sideColor ends m) (sym far)));
           grown = push-grown ends m colors queue tail queued w s edge-inside none b;
-          edge = rw (← far) (push-has ends m colors queue tail queued w s edge-inside none b, λ q. omega (arith, old, new))
+          edge = rw (← far) (push-has ends m colors queue tail queued w s edge-inside none b, λ q. omega (arith, old, new));
         }
 
 -- ---- one node
@@ -130,16 +132,18 @@ module _ (ends : List ℕ) (v : ℕ) (colors queue : List ℕ) (tail : ℕ) (col
     visited = λ j b. elim (dec-eq j at) [
       | inl p ↦ rw (p, ← e) (step .edge)
       | inr q ↦ edge-grown ends v (getD (edgesAt ends (edgeCount ends) v) j 0) (step .grown) (progress .has) (progress .visited j (omega arith))
-    ]
+    ];
   }
 
   pub node-done : length (edgesAt ends (edgeCount ends) v) ≤ at → NodeStep ends v colors queue tail colors′ queue′ t
   node-done h = record {
     queued = progress .queued;
     grown = progress .grown;
-    visited = record { edges = λ k b a.
-      let r = place-of k (edgesAt ends (edgeCount ends) v) 0 (at-edge ends (edgeCount ends) v k b a) in
-      rw (r .2) at (progress .visited (r .0) (omega (arith, r .1))) }
+    visited = record {
+      edges = λ k b a.
+          let r = place-of k (edgesAt ends (edgeCount ends) v) 0 (at-edge ends (edgeCount ends) v k b a) in
+          rw (r .2) at (progress .visited (r .0) (omega (arith, r .1)));
+    };
   }
 
 -- ---- the queue
@@ -173,14 +177,14 @@ module _ (ends colors queue : List ℕ) (tail : ℕ) (colors′ queue′ : List 
     visited = λ j b. elim (dec-eq j i) [
       | inl p ↦ rw (p, step .grown .front i h) (step .visited)
       | inr q ↦ rw (step .grown .front j (omega arith)) (visited-grown ends (edgeCount ends) (getD queue′ j 0) (step .grown) (progress .queued .members j (omega arith)) (progress .visited j (omega arith)))
-    ]
+    ];
   }
 
   pub queue-done : t ≤ i → QueueStep ends colors queue tail colors′ queue′ t
   queue-done h = record {
     queued = progress .queued;
     grown = progress .grown;
-    visited = λ v has. let r = progress .queued .all v has in rw (r .2) at (progress .visited (r .0) (omega (arith, r .1)))
+    visited = λ v has. let r = progress .queued .all v has in rw (r .2) at (progress .visited (r .0) (omega (arith, r .1)));
   }
 
 -- ---- one component
@@ -208,7 +212,7 @@ module _ (ends colors queue : List ℕ) (tail root : ℕ) (queued : Queued ends 
   pub root-colored : (colors′ queue′ : List ℕ) (t : ℕ) → QueueStep ends (set colors root 1) (set queue tail root) (tail + 1) colors′ queue′ t → Colored ends root colors queue tail colors′ queue′ t
   root-colored colors′ queue′ t step = record {
     step = record { queued = step .queued; grown = grown-more root-grown (step .grown); visited = step .visited };
-    root-has = grown-has (step .grown) root (push-has ends (edgeCount ends) colors queue tail queued root 1 (free .0) (free .1) (omega arith))
+    root-has = grown-has (step .grown) root (push-has ends (edgeCount ends) colors queue tail queued root 1 (free .0) (free .1) (omega arith));
   }
 
 -- ---- all components
@@ -233,11 +237,11 @@ progress-none ends n colors queue inside e room = rw e (record {
     all = λ v h. absurd (none-has n v h);
     once = tt;
     two = λ v h. absurd (none-has n v h);
-    right = λ t v h. absurd (none-has n v h)
+    right = λ t v h. absurd (none-has n v h);
   };
   visited = λ v h. absurd (none-has n v h);
   before = λ u h. absurd (not-suc-le-zero h);
-  size = length-replicate {A = ℕ} n 65535
+  size = length-replicate {A = ℕ} n 65535;
 })
 
 module _ (ends : List ℕ) (n : ℕ) (colors queue : List ℕ) (tail v : ℕ) (progress : Progress ends n colors queue tail v) where
@@ -249,7 +253,7 @@ module _ (ends : List ℕ) (n : ℕ) (colors queue : List ℕ) (tail v : ℕ) (p
     queued = c .step .queued;
     visited = c .step .visited;
     before = λ u h. elim (dec-eq u v) [ inl p ↦ rw p (c .root-has) | inr q ↦ grown-has (c .step .grown) u (progress .before u (omega arith)) ];
-    size = c .step .grown .size ∙ progress .size
+    size = c .step .grown .size ∙ progress .size;
   }
 
   pub progress-passed : v < n → (getD colors v 0 ≡ 65535 → ⊥) → Progress ends n colors queue tail (v + 1)
@@ -257,7 +261,7 @@ module _ (ends : List ℕ) (n : ℕ) (colors queue : List ℕ) (tail v : ℕ) (p
     queued = progress .queued;
     visited = progress .visited;
     before = λ u b. elim (dec-eq u v) [ inl p ↦ rw p (omega (arith, progress .size), c) | inr q ↦ progress .before u (omega arith) ];
-    size = progress .size
+    size = progress .size;
   }
 
   pub progress-done : n ≤ v → (oddCycle ends (edgeCount ends) ≡ false) × (colors ≡ sides ends (edgeCount ends) n)

@@ -2,15 +2,15 @@
 use Prim.Native.Nat.{ℕ, zero, suc, _-_, _≤_, _<_}
 use mathlib.Core.Path.{_≡_, refl, sym, ap, _∙_}
 use mathlib.Core.Logic.{_⊎_, inl, inr, _≢_}
-use mathlib.Core.List.{List, [], _∷_, _++_}
+use mathlib.Core.List.{List}
 use mathlib.Core.Bool.{Bool, true, false, not, _&&_, _||_, xor, Bool·beq, Bool·not-not, and-true as and-with-true, and-false, false≢true, true≢false}
 use native.Mathlib.Omega.{arith}
 use native.Mathlib.Nat.{not-suc-le-zero}
-use lib.ListN.{length, getD, length-append, List·getD-append}
-use lib.Seq.{getD-append-seam}
+use lib.ListN.{length, getD}
 use lib.Dec.{eqb, ltb}
 use borrow.Author.Tests.{lt-ltb, le-ltb, ltb-true, ltb-false, eq-eqb, ne-eqb, eqb-true, eqb-false}
 use Rattle.lists.specs.Tests.{by-test, dec-eq, and-true, or-true, true-or, or-false}
+use Rattle.lists.specs.Tabulate.{length-tabulate, tabulate-at}
 use Rattle.graph.specs.Edges.{firstEnd, secondEnd, farEnd}
 use Rattle.graph.specs.EdgeLaws.{At, far-first, far-second}
 use Rattle.two_color.specs.Odd.{isOdd, false-xor, xor-false, not-xor, xor-not}
@@ -333,16 +333,11 @@ module _ (ends : List ℕ) (m : ℕ) (fine : oddCycle ends m ≡ false) (j : ℕ
 
 pub length-sides : (ends : List ℕ) (m n : ℕ) → length (sides ends m n) ≡ n
 unfolding sides
-length-sides ends m zero = refl
-length-sides ends m (suc n) = length-append (sides ends m n) (sideColor ends m n ∷ []) ∙ omega (arith, length-sides ends m n)
+length-sides ends m n = length-tabulate (sideColor ends m) n
 
 pub sides-at : (ends : List ℕ) (m n v : ℕ) → v < n → getD (sides ends m n) v 0 ≡ sideColor ends m v
 unfolding sides
-sides-at ends m zero v h = absurd (not-suc-le-zero h)
-sides-at ends m (suc n) v h = elim (dec-eq v n) [
-  | inl p ↦ rw p (ap (λ (i : ℕ). getD (sides ends m n ++ (sideColor ends m n ∷ [])) i 0) (sym (length-sides ends m n)) ∙ getD-append-seam (sides ends m n) (sideColor ends m n) [] 0)
-  | inr q ↦ List·getD-append (sides ends m n) (sideColor ends m n ∷ []) 0 v (rw (length-sides ends m n) (omega arith)) ∙ sides-at ends m n v (omega arith)
-]
+sides-at ends m n v h = tabulate-at (sideColor ends m) n v h
 
 -- ---- any colours 0 and 1 that differ along each edge
 

@@ -1,8 +1,9 @@
 -- Components and sides, taking in one edge after the other, and the colours. "Edge direction is ignored."
 use Prim.Native.Nat.{ℕ, zero, suc}
-use mathlib.Core.List.{List, [], _∷_, _++_}
+use mathlib.Core.List.{List}
 use mathlib.Core.Bool.{Bool, false, _&&_, _||_, xor, Bool·beq, cond}
 use lib.Dec.{eqb, ltb}
+use Rattle.lists.specs.Tabulate.{tabulate}
 use Rattle.graph.specs.Edges.{firstEnd, secondEnd}
 
 -- The lower of two nodes.
@@ -50,5 +51,4 @@ sideColor ends m v = cond (oddSide ends m v) 0 1
 
 -- "The lowest node of each component gets 1, neighbours get the other": the colours of nodes 0 to n - 1.
 unfoldable pub sides : List ℕ → ℕ → ℕ → List ℕ
-sides ends m zero = []
-sides ends m (suc v) = sides ends m v ++ (sideColor ends m v ∷ [])
+sides ends m = tabulate (sideColor ends m)

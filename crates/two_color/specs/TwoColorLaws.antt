@@ -156,8 +156,8 @@ module _ (n : ℕ) (ends lent : List ℕ) where
       no = says-no answer;
       cannot = cannot-be answer;
       differ = λ days e k h q.
-        let s = accepts answer days e in
-        let i = passed-inside n ends (s .passed) k h in
-        omega (arith, s .at (firstEnd ends k) (i .0), s .at (secondEnd ends k) (i .1), color-second ends (edgeCount ends) (s .even) k h, side-color-bound ends (edgeCount ends) (firstEnd ends k));
-      lowest = λ days e v h own. accepts answer days e .at v h ∙ lowest-node-one ends (edgeCount ends) v own
+          let s = accepts answer days e in
+          let i = passed-inside n ends (s .passed) k h in
+          omega (arith, s .at (firstEnd ends k) (i .0), s .at (secondEnd ends k) (i .1), color-second ends (edgeCount ends) (s .even) k h, side-color-bound ends (edgeCount ends) (firstEnd ends k));
+      lowest = λ days e v h own. accepts answer days e .at v h ∙ lowest-node-one ends (edgeCount ends) v own;
     }

@@ -9,12 +9,12 @@ ghost use Rattle.graph.specs.Edges.{edgeCount};
 ghost use Rattle.graph.specs.Color.{colored};
 ghost use Rattle.graph.specs.Check.{_gives_};
 ghost use Rattle.two_color.specs.TwoColor.{twoColor, sidesOutcome, ProofPrinter};
-use graph::check_graph;
-use graph::days_of;
 use graph::Checked;
 use graph::Color;
 use graph::Coloring;
 use graph::Refusal;
+use graph::check_graph;
+use graph::days_of;
 
 mod search;
 

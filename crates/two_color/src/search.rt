@@ -10,13 +10,13 @@ ghost use Rattle.graph.specs.Stretch.{stretch};
 ghost use Rattle.two_color.specs.Sides.{oddCycle, sides};
 ghost use Rattle.two_color.specs.Queue.{Has, Queued, Visited};
 ghost use Rattle.two_color.specs.Search.{Table, Reaches, EdgeStep, NodeStep, QueueStep, Colored};
-use graph::edge_at;
-use graph::far_end;
-use graph::incidence;
 use graph::Color;
 use graph::EdgeIndex;
 use graph::NodeIndex;
 use graph::WalkStep;
+use graph::edge_at;
+use graph::far_end;
+use graph::incidence;
 
 // How far the queue reaches now, or that two neighbours have the same colour.
 pub enum Reached {
@@ -33,7 +33,14 @@ fn other(side: u16) -> u16
 }
 
 // One edge of a coloured node: its far end gets the other colour, unless it has one.
-fn visit_edge(ends: &[u16], colors: &mut [u16], queue: &mut [u16], tail: usize, node: NodeIndex, edge: EdgeIndex) -> Reached
+fn visit_edge(
+    ends: &[u16],
+    colors: &mut [u16],
+    queue: &mut [u16],
+    tail: usize,
+    node: NodeIndex,
+    edge: EdgeIndex,
+) -> Reached
     requires { ⌜ Queued (now ends) (edgeCount (now ends)) (now colors) (now queue) tail ⌝ }
     requires { ⌜ Has (now colors) (node .0) ⌝ }
     requires { ⌜ (edge .0 < edgeCount (now ends)) × At (now ends) (edge .0) (node .0) ⌝ }
@@ -57,7 +64,15 @@ fn visit_edge(ends: &[u16], colors: &mut [u16], queue: &mut [u16], tail: usize, 
 }
 
 // All edges of a coloured node.
-fn visit_node(ends: &[u16], starts: &[u16], entries: &[u16], colors: &mut [u16], queue: &mut [u16], tail: usize, node: NodeIndex) -> Reached
+fn visit_node(
+    ends: &[u16],
+    starts: &[u16],
+    entries: &[u16],
+    colors: &mut [u16],
+    queue: &mut [u16],
+    tail: usize,
+    node: NodeIndex,
+) -> Reached
     requires { ⌜ Queued (now ends) (edgeCount (now ends)) (now colors) (now queue) tail ⌝ }
     requires { ⌜ Has (now colors) (node .0) ⌝ }
     requires { ⌜ stretch (now starts) (now entries) (node .0) ≡ edgesAt (now ends) (edgeCount (now ends)) (node .0) ⌝ }
@@ -71,7 +86,14 @@ fn visit_node(ends: &[u16], starts: &[u16], entries: &[u16], colors: &mut [u16],
             WalkStep::End => {
                 return Reached::Tail(reached);
             }
-            WalkStep::Edge(edge, next) => match visit_edge(ends, colors, queue, reached, node, edge) {
+            WalkStep::Edge(edge, next) => match visit_edge(
+                ends,
+                colors,
+                queue,
+                reached,
+                node,
+                edge,
+            ) {
                 Reached::Clash => {
                     return Reached::Clash;
                 }
@@ -85,7 +107,15 @@ fn visit_node(ends: &[u16], starts: &[u16], entries: &[u16], colors: &mut [u16],
 }
 
 // The queue from `head` on, and what is queued meanwhile.
-fn visit_queue(ends: &[u16], starts: &[u16], entries: &[u16], colors: &mut [u16], queue: &mut [u16], head: usize, tail: usize) -> Reached
+fn visit_queue(
+    ends: &[u16],
+    starts: &[u16],
+    entries: &[u16],
+    colors: &mut [u16],
+    queue: &mut [u16],
+    head: usize,
+    tail: usize,
+) -> Reached
     requires { ⌜ Queued (now ends) (edgeCount (now ends)) (now colors) (now queue) tail ⌝ }
     requires { ⌜ Table (now ends) (length (now colors)) (now starts) (now entries) ⌝ }
     requires { ⌜ (head ≤ tail) × ((i : ℕ) → i < head → Visited (now ends) (edgeCount (now ends)) (now colors) (getD (now queue) i 0)) ⌝ }
@@ -110,7 +140,15 @@ fn visit_queue(ends: &[u16], starts: &[u16], entries: &[u16], colors: &mut [u16]
 }
 
 // The component of its lowest node, which gets 1.
-fn color_component(ends: &[u16], starts: &[u16], entries: &[u16], colors: &mut [u16], queue: &mut [u16], tail: usize, root: NodeIndex) -> Reached
+fn color_component(
+    ends: &[u16],
+    starts: &[u16],
+    entries: &[u16],
+    colors: &mut [u16],
+    queue: &mut [u16],
+    tail: usize,
+    root: NodeIndex,
+) -> Reached
     requires { ⌜ Queued (now ends) (edgeCount (now ends)) (now colors) (now queue) tail ⌝ }
     requires { ⌜ Table (now ends) (length (now colors)) (now starts) (now entries) ⌝ }
     requires { ⌜ ((v : ℕ) → Has (now colors) v → Visited (now ends) (edgeCount (now ends)) (now colors) v) ⌝ }
@@ -125,7 +163,14 @@ fn color_component(ends: &[u16], starts: &[u16], entries: &[u16], colors: &mut [
 }
 
 // One component after the other; whether none had two neighbours of the same colour.
-fn color_components(n: usize, ends: &[u16], starts: &[u16], entries: &[u16], colors: &mut [u16], queue: &mut [u16]) -> bool
+fn color_components(
+    n: usize,
+    ends: &[u16],
+    starts: &[u16],
+    entries: &[u16],
+    colors: &mut [u16],
+    queue: &mut [u16],
+) -> bool
     requires { ⌜ Passed n (now ends) ⌝ }
     requires { ⌜ Table (now ends) n (now starts) (now entries) ⌝ }
     requires { ⌜ (now colors ≡ replicate n 65535) × (n ≤ length (now queue)) ⌝ }
@@ -138,7 +183,15 @@ fn color_components(n: usize, ends: &[u16], starts: &[u16], entries: &[u16], col
         let root = v;
         v += 1;
         if colors[root] == Color::NONE {
-            match color_component(ends, starts, entries, colors, queue, tail, NodeIndex(root as u16)) {
+            match color_component(
+                ends,
+                starts,
+                entries,
+                colors,
+                queue,
+                tail,
+                NodeIndex(root as u16),
+            ) {
                 Reached::Clash => {
                     return false;
                 }
@@ -152,7 +205,14 @@ fn color_components(n: usize, ends: &[u16], starts: &[u16], entries: &[u16], col
 }
 
 // The table is made in the lent slices; where the answer is true the first n colours are those of `sides`.
-pub fn color_nodes(n: usize, ends: &[u16], starts: &mut [u16], entries: &mut [u16], colors: &mut [u16], queue: &mut [u16]) -> bool
+pub fn color_nodes(
+    n: usize,
+    ends: &[u16],
+    starts: &mut [u16],
+    entries: &mut [u16],
+    colors: &mut [u16],
+    queue: &mut [u16],
+) -> bool
     requires { ⌜ Passed n (now ends) ⌝ }
     requires { ⌜ (length (now starts) ≡ 513) × (length (now entries) ≡ 8192) ⌝ }
     requires { ⌜ (now colors ≡ replicate 512 65535) × (length (now queue) ≡ 512) ⌝ }

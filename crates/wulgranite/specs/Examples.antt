@@ -5,6 +5,7 @@ use mathlib.Core.List.{List, [], _∷_, _++_}
 use mathlib.Core.Bool.{Bool, true, false, _&&_, xor}
 use lib.Dec.{eqb}
 use Rattle.lists.specs.Search.{allBelow}
+use Rattle.lists.specs.Tabulate.{tabulate}
 use Rattle.graph.specs.Report.{Report, accepted, refused}
 use Rattle.graph.specs.Check.{firstRefusal, answered, written, graphChecks}
 use Rattle.graph.specs.Edges.{firstEnd, secondEnd}
@@ -63,5 +64,5 @@ rows =
     ∷ []
 
 pub examples : all rows ≡ true
-unfolding all rows holds outcome same sameReport twoColor inputChecks colored daysOf sides sideColor oddCycle oddSide lowest givesWay lower firstEnd secondEnd graphChecks firstRefusal answered written allBelow xor
+unfolding all rows holds outcome same sameReport twoColor inputChecks colored daysOf sides tabulate sideColor oddCycle oddSide lowest givesWay lower firstEnd secondEnd graphChecks firstRefusal answered written allBelow xor
 examples = refl

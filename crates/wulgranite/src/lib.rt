@@ -1,9 +1,4 @@
 // Graph colouring for calendars: every public call and type in one place.
-pub use graph::check_graph;
-pub use graph::edge_at;
-pub use graph::edges_at;
-pub use graph::far_end;
-pub use graph::incidence;
 pub use graph::Checked;
 pub use graph::Color;
 pub use graph::Coloring;
@@ -14,4 +9,9 @@ pub use graph::IncidenceAnswer;
 pub use graph::NodeIndex;
 pub use graph::Refusal;
 pub use graph::WalkStep;
+pub use graph::check_graph;
+pub use graph::edge_at;
+pub use graph::edges_at;
+pub use graph::far_end;
+pub use graph::incidence;
 pub use two_color::two_color;
