@@ -1,48 +1,24 @@
 -- What each function of the search does, and the laws that its proofs cite.
-use Prim.Native.Nat.{ℕ, suc, _+_, _-_, _≤_, _<_}
+use Prim.Native.Nat.{ℕ, _+_, _-_, _≤_, _<_}
 use mathlib.Core.Path.{_≡_, sym, ap, _∙_, subst}
 use mathlib.Core.Logic.{inl, inr, _≢_}
-use mathlib.Core.List.{List, _++_, append-assoc}
+use mathlib.Core.List.{List}
 use mathlib.Core.Bool.{true, false}
 use native.Mathlib.Omega.{arith}
 use native.Mathlib.Nat.{not-suc-le-zero}
-use lib.ListN.{length, getD, set, take, drop, replicate, length-set, length-replicate, getD-replicate}
-use lib.Seq.{take-at, getD-set-same, getD-set-other}
+use lib.ListN.{length, getD, set, replicate, length-set, length-replicate, getD-replicate}
+use lib.Seq.{getD-set-same, getD-set-other}
 use Rattle.lists.specs.Tests.{dec-eq}
 use Rattle.lists.specs.Member.{mem-getD, place-of}
 use Rattle.graph.specs.Edges.{edgeCount, edgesAt, farEnd}
 use Rattle.graph.specs.EdgeLaws.{At, edge-at, at-edge}
 use Rattle.graph.specs.Stretch.{stretch}
-use Rattle.graph.specs.TableLaws.{Inside, length-starts}
-use Rattle.graph.specs.Table.{entriesBelow, startsBelow, startOf, over, incidenceOf}
-use Rattle.graph.specs.StretchLaws.{table-stretch, start-length}
-use Rattle.graph.specs.IncidenceLaws.{incidence-made}
-use Rattle.graph.specs.CheckLaws.{Passed}
+use Rattle.graph.specs.TableLaws.{Inside}
+use Rattle.graph.specs.StretchLaws.{Table}
 use Rattle.two_color.specs.declared.search.Reached.{Reached}
 use Rattle.two_color.specs.declared.search.Reached.the-variants.{Tail, Clash}
 use Rattle.two_color.specs.Sides.{oddCycle, sides, sideColor}
 use Rattle.two_color.specs.Queue.{Has, Queued, Grown, grown-none, grown-more, grown-has, EdgeVisited, Visited, edge-grown, visited-grown, queue-room, push, push-grown, push-has, queue-bound, far-inside, clash, other-right, first-right, no-odd, all-sides}
-
--- Asked for a node below n the table gives its edges.
-pub record Table (ends : List ℕ) (n : ℕ) (starts entries : List ℕ) : Type 0 where
-  pub row : (v : ℕ) → v < n → stretch starts entries v ≡ edgesAt ends (edgeCount ends) v
-
-pub table-size : (ends colors starts entries : List ℕ) (n : ℕ) → Table ends n starts entries → length colors ≡ n → Table ends (length colors) starts entries
-table-size ends colors starts entries n table e = rw e table
-
--- The table that `incidence` made at the front of longer slices.
-pub table-made : (n : ℕ) (ends starts entries starts′ entries′ a b : List ℕ) → Passed n ends → length starts ≡ n + 1 → length entries ≡ length ends
-    → starts′ ≡ incidenceOf n ends starts entries .starts → entries′ ≡ incidenceOf n ends starts entries .entries → Table ends n (starts′ ++ a) (entries′ ++ b)
-table-made n ends starts entries starts′ entries′ a b p l k e f =
-    let m = edgeCount ends in
-    let made = incidence-made n ends starts entries p l k in
-    let s : starts′ ≡ startsBelow ends m (suc n) = e ∙ made .0 in
-    let t : entries′ ≡ over (entriesBelow ends m n) entries = f ∙ made .1 in
-    record {
-      row = table-stretch ends m n (starts′ ++ a) (entries′ ++ b)
-          (sym (take-at starts′ a (suc n) (ap length s ∙ length-starts ends m (suc n)) ∙ s))
-          (sym (ap (λ (x : List ℕ). take (startOf ends m n) (x ++ b)) t ∙ (ap (take (startOf ends m n)) (append-assoc (entriesBelow ends m n) (drop (length (entriesBelow ends m n)) entries) b) ∙ take-at (entriesBelow ends m n) (drop (length (entriesBelow ends m n)) entries ++ b) (startOf ends m n) (sym (start-length ends m n)))));
-    }
 
 -- What holds of an answer: one thing of a clash, another of the new tail.
 pub record Reaches (r : Reached) (clashed : Type 0) (reached : ℕ → Type 0) : Type 0 where

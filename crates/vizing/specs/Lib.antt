@@ -6,6 +6,7 @@ pub mod Simple
 -- one step keeps a proper colouring within D + 1 colours
 pub mod Coloring
 pub mod SimpleGraph
+pub mod SimpleDegree
 pub mod AlternatingPath
 pub mod PathEnd
 pub mod Fan

@@ -5,8 +5,9 @@ use mathlib.Core.Bool.{true≢false, false≢true}
 use native.Mathlib.Omega.{arith}
 use lib.ListN.{length}
 use borrow.Author.Needs.{needs}
-use Rattle.two_color.specs.Search.{Progress, progress-none, progress-root, progress-colored, progress-passed, progress-done, table-size}
+use Rattle.two_color.specs.Search.{Progress, progress-none, progress-root, progress-colored, progress-passed, progress-done}
 use Rattle.graph.specs.CheckLaws.{passed-inside}
+use Rattle.graph.specs.StretchLaws.{table-size}
 use Rattle.two_color.proofs.search.color_components.Statement.{statement}
 use Rattle.two_color.proofs.search.color_components.Tie as tie
 
