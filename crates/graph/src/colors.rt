@@ -1,5 +1,6 @@
-// The days that a list of colours takes.
+// The days that a list of colours takes, and copying colours out.
 ghost use mathlib.Core.Path.{_≡_};
+ghost use Rattle.lists.specs.Parts.{copiedOver};
 ghost use Rattle.graph.specs.Color.{daysOf};
 
 pub fn days_of(colors: &[u16]) -> usize
@@ -15,4 +16,18 @@ pub fn days_of(colors: &[u16]) -> usize
         }
     }
     days
+}
+
+// Copies from the front as many colours as both slices have.
+pub fn copy_colors(from: &[u16], to: &mut [u16])
+    ensures { λ _. ⌜ now (to .exit) ≡ copiedOver (now (from .entry)) (now (to .entry)) ⌝ }
+{
+    let mut i = 0;
+    while i < from.len() {
+        if to.len() <= i {
+            return;
+        }
+        to[i] = from[i];
+        i += 1;
+    }
 }

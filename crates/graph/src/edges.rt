@@ -31,7 +31,7 @@ pub fn edges_at<'a>(starts: &[u16], entries: &'a [u16], node: NodeIndex) -> &'a 
 }
 
 // What stands at a place of the end list, 0 beyond it.
-fn end_at(ends: &[u16], place: usize) -> NodeIndex
+pub fn end_at(ends: &[u16], place: usize) -> NodeIndex
     ensures { λ r. ⌜ r .0 ≡ getD (now (ends .entry)) place 0 ⌝ }
 {
     if place < ends.len() {

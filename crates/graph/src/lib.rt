@@ -9,8 +9,10 @@ mod table;
 pub mod walk;
 
 pub use check::check_graph;
+pub use colors::copy_colors;
 pub use colors::days_of;
 pub use edges::edges_at;
+pub use edges::end_at;
 pub use edges::far_end;
 pub use table::incidence;
 pub use walk::EdgeWalk;

@@ -1,12 +1,12 @@
 -- Parts of a list: what a store outside a part, or right before it, does to the part.
-use Prim.Native.Nat.{zero, ℕ, zero, suc, _+_, _-_, _≤_, _<_}
-use mathlib.Core.Path.{refl, _≡_, refl, ap, _∙_}
+use Prim.Native.Nat.{zero, ℕ, suc, _+_, _-_, _≤_, _<_}
+use mathlib.Core.Path.{refl, _≡_, ap, _∙_}
 use mathlib.Core.Logic.{_⊎_, inl, inr}
 use mathlib.Core.List.{append-nil, List, [], _∷_, _++_}
 use native.Mathlib.Numerals.{add-one}
 use native.Mathlib.Omega.{arith}
-use lib.ListN.{replicate, getD, drop-of-length-le, length, set, take, drop, length-set, length-drop}
-use lib.Seq.{set-at, take-suc, take-all, append-snoc, drop-cons, drop-set-lt, drop-set-add, take-set-le, getD-set-same, length-take-le, take-add, drop-drop}
+use lib.ListN.{take, drop, set, drop-of-length-le, getD, replicate, length, length-set, length-drop}
+use lib.Seq.{drop-length, take-length, set-at, take-suc, take-all, append-snoc, drop-cons, drop-set-lt, drop-set-add, take-set-le, getD-set-same, length-take-le, take-add, drop-drop}
 
 -- The numbers from place a up to, not including, place e: Rattle's `&l[a..e]`.
 abbrev pub part : List ℕ → ℕ → ℕ → List ℕ
@@ -43,14 +43,32 @@ part-join l a b c h k =
 pub length-part : (l : List ℕ) (a e : ℕ) → a ≤ e → e ≤ length l → length (part l a e) ≡ e - a
 length-part l a e h k = length-take-le (e - a) (drop a l) (rw (length-drop a l) (omega arith))
 
--- A copy from the front: the first i numbers of s over those of d.
-pub copied-more : (s d c : List ℕ) (i : ℕ) → c ≡ take i s ++ drop i d → i < length s → length d ≡ length s → set c i (getD s i 0) ≡ take (i + 1) s ++ drop (i + 1) d
-copied-more s d c i e h l =
-    let t : length (take i s) ≡ i = length-take-le i s (omega arith) in
-    rw (e, add-one i, drop-cons d i 0 (omega arith), set-at (take i s) (getD d i 0) (drop (suc i) d) (getD s i 0) i t, take-suc s i 0 h, append-snoc)
+-- ---- a copy from the front
 
-pub copied-all : (s d c : List ℕ) (i : ℕ) → c ≡ take i s ++ drop i d → length s ≤ i → length d ≡ length s → c ≡ s
-copied-all s d c i e h l = rw (e, take-all i s h, drop-of-length-le d (let b : length d ≤ i = omega arith in b)) (append-nil s)
+-- The front of d with as many numbers of s as both have.
+unfoldable pub copiedOver : List ℕ → List ℕ → List ℕ
+copiedOver s d = take (length d) s ++ drop (length s) d
+
+pub copied-next : (s d c : List ℕ) (i : ℕ) → c ≡ take i s ++ drop i d → i < length s → i < length d → set c i (getD s i 0) ≡ take (i + 1) s ++ drop (i + 1) d
+copied-next s d c i e h k =
+    rw (e, add-one i, drop-cons d i 0 k, set-at (take i s) (getD d i 0) (drop (suc i) d) (getD s i 0) i (length-take-le i s (omega arith)), take-suc s i 0 h, append-snoc)
+
+pub copied-full : (s d c : List ℕ) (i : ℕ) → c ≡ take i s ++ drop i d → i ≤ length d → length d ≤ i → i < length s → c ≡ copiedOver s d
+unfolding copiedOver
+copied-full s d c i e a b h =
+    let p : i ≡ length d = omega arith in
+    rw (e, p, drop-of-length-le d (let q : length d ≤ length s = omega arith in q), drop-length d)
+
+pub copied-end : (s d c : List ℕ) (i : ℕ) → c ≡ take i s ++ drop i d → i ≤ length s → length s ≤ i → i ≤ length d → c ≡ copiedOver s d
+unfolding copiedOver
+copied-end s d c i e a b h =
+    let p : i ≡ length s = omega arith in
+    rw (e, p, take-length s, take-all (length d) s (omega arith))
+
+-- Slices of one length: a copy.
+pub copied-same : (s d : List ℕ) → length d ≡ length s → copiedOver s d ≡ s
+unfolding copiedOver
+copied-same s d l = rw (take-all (length d) s (omega arith), drop-of-length-le d (let q : length d ≤ length s = omega arith in q)) (append-nil s)
 
 pub take-replicate : (n k x : ℕ) → n ≤ k → take n (replicate k x) ≡ replicate n x
 take-replicate zero k x h = refl

@@ -1,11 +1,11 @@
 -- `copy_out` meets its contract. The invariant: the colours passed are copied.
 use Prim.Native.Nat.{_≤_, _-_}
-use mathlib.Core.Path.{_≡_, refl}
+use mathlib.Core.Path.{_∙_, _≡_, refl}
 use mathlib.Core.List.{_++_}
 use native.Mathlib.Omega.{arith}
 use lib.ListN.{length, take, drop, length-set}
 use borrow.Author.Needs.{needs}
-use Rattle.lists.specs.Parts.{copied-more, copied-all}
+use Rattle.lists.specs.Parts.{copied-next, copied-end, copied-same}
 use Rattle.two_color.proofs.copy_out.Statement.{statement}
 use Rattle.two_color.proofs.copy_out.Tie as tie
 
@@ -22,10 +22,10 @@ cast-colors : tie.Need-cast-colors Inv-loop μ-loop
 cast-colors c = omega (arith, c .before .before .before .pre .1 (c .before .before .loop .i) (c .before .loop-test .taken))
 
 loop-again : tie.Need-loop-again Inv-loop μ-loop
-loop-again c = (omega arith, simp length-set (c .before .before .loop .inv .1), copied-more _ _ _ _ (c .before .before .loop .inv .2) (c .before .loop-test .taken) (c .before .before .before .pre .0))
+loop-again c = (omega arith, simp length-set (c .before .before .loop .inv .1), copied-next _ _ _ _ (c .before .before .loop .inv .2) (c .before .loop-test .taken) (omega (arith, c .before .before .before .pre .0)))
 
 returns : tie.Need-returns Inv-loop μ-loop
-returns c = copied-all _ _ _ _ (c .before .loop .inv .2) (c .loop-test .left) (c .before .before .pre .0)
+returns c = copied-end _ _ _ _ (c .before .loop .inv .2) (c .before .loop .inv .0) (c .loop-test .left) (omega (arith, c .before .before .pre .0)) ∙ copied-same _ _ (c .before .before .pre .0)
 
 pub copy-out-spec : {M : Type 1} → statement M
 copy-out-spec =
