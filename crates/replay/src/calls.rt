@@ -1,0 +1,81 @@
+// The calls: each lends so much of its slices as its line says, calls, and prints the answer.
+use crate::input::narrow;
+use crate::lent::{cut, cut_bytes, lend, lend_bytes};
+use crate::lines::{Line, Sizes};
+use crate::names::Name;
+use crate::output::{put, put_all, put_bytes, put_list, put_part, put_report};
+
+use graph::{Coloring, IncidenceAnswer, NodeIndex, edges_at};
+
+fn put_coloring(text: &mut [u8], waiting: usize, name: &[u8], answer: Coloring) -> usize {
+    match answer {
+        Coloring::Accepted { days } => put_report(text, waiting, name, b"days", days as u64),
+        Coloring::Refused(refusal) => put_report(text, waiting, name, b"refused", refusal.number() as u64),
+    }
+}
+
+fn put_incidence(text: &mut [u8], waiting: usize, answer: IncidenceAnswer) -> usize {
+    match answer {
+        IncidenceAnswer::Accepted { total } => put_report(text, waiting, b"incidence", b"total", total as u64),
+        IncidenceAnswer::Refused(refusal) => put_report(text, waiting, b"incidence", b"refused", refusal.number() as u64),
+    }
+}
+
+fn call_incidence(text: &mut [u8], waiting: usize, n: usize, ends: &[u16], line: Line, list: &mut [u16], entries: &mut [u16]) -> usize {
+    let s = cut(line.first, list);
+    let e = cut(line.second, entries);
+    let starts = &mut list[..s];
+    let entries = &mut entries[..e];
+    lend(starts);
+    lend(entries);
+    let answer = graph::incidence(n, ends, starts, entries);
+    let end = put_incidence(text, waiting, answer);
+    let end = put_list(text, end, starts);
+    let end = put(text, end, b';');
+    let end = put_list(text, end, entries);
+    put(text, end, b'\n')
+}
+
+// The table is the line's own, and nothing is lent.
+fn call_edges_at(text: &mut [u8], waiting: usize, line: Line, list: &[u16], entries: &[u16]) -> usize {
+    let s = cut(line.second, list);
+    let e = cut(line.third, entries);
+    let edges = edges_at(&list[..s], &entries[..e], NodeIndex(narrow(line.first)));
+    let end = put_all(text, waiting, b"edges_at:");
+    let end = put_part(text, end, edges);
+    put(text, end, b'\n')
+}
+
+fn call_two_color(text: &mut [u8], waiting: usize, n: usize, ends: &[u16], line: Line, bytes: &mut [u8]) -> usize {
+    let c = cut_bytes(line.first, bytes);
+    let colors = &mut bytes[..c];
+    lend_bytes(colors);
+    let answer = two_color::two_color(n, ends, colors);
+    let end = put_coloring(text, waiting, b"two_color", answer);
+    let end = put_bytes(text, end, colors);
+    put(text, end, b'\n')
+}
+
+// The line's call; a line that is none prints nothing. No call takes the presets yet.
+pub fn call(
+    text: &mut [u8],
+    waiting: usize,
+    line: Line,
+    sizes: Sizes,
+    ends: &[u16],
+    presets: &[u16],
+    list: &mut [u16],
+    entries: &mut [u16],
+    bytes: &mut [u8],
+) -> usize {
+    let n = sizes.nodes;
+    let m = cut(sizes.ends, ends);
+    let ends = &ends[..m];
+    let name = line.name;
+    match name {
+        Name::Incidence => call_incidence(text, waiting, n, ends, line, list, entries),
+        Name::EdgesAt => call_edges_at(text, waiting, line, list, entries),
+        Name::TwoColor => call_two_color(text, waiting, n, ends, line, bytes),
+        _ => waiting,
+    }
+}

@@ -1,0 +1,86 @@
+// What a line lends: how much of a slice, what stands in it before the call, and whether the call left it so.
+ghost use mathlib.Core.Path.{_≡_};
+ghost use mathlib.Core.Bool.{true};
+ghost use Rattle.io.specs.Counts.{Counts};
+ghost use Rattle.replay.specs.Lent.{numberAt, byteAt, Lent};
+
+// As many of list's numbers as are wanted, or all that it has.
+pub fn cut(wanted: usize, list: &[u16]) -> usize
+    ensures { λ r. ⌜ Counts r (now (list .entry)) ⌝ }
+{
+    if wanted < list.len() {
+        wanted
+    } else {
+        list.len()
+    }
+}
+
+// The same of bytes.
+pub fn cut_bytes(wanted: usize, bytes: &[u8]) -> usize
+    ensures { λ r. ⌜ Counts r (now (bytes .entry)) ⌝ }
+{
+    if wanted < bytes.len() {
+        wanted
+    } else {
+        bytes.len()
+    }
+}
+
+// What stands at a place before the call: unlike its neighbours and what a call writes, so that a place that was written shows.
+fn number_at(i: usize) -> u16
+    ensures { λ r. ⌜ r ≡ numberAt i ⌝ }
+{
+    (60000 + i % 5000) as u16
+}
+
+fn byte_at(i: usize) -> u8
+    ensures { λ r. ⌜ r ≡ byteAt i ⌝ }
+{
+    (100 + i % 100) as u8
+}
+
+pub fn lend(list: &mut [u16])
+    ensures { λ _. ⌜ Lent numberAt (now (list .exit)) ⌝ }
+{
+    let mut i = 0;
+    while i < list.len() {
+        list[i] = number_at(i);
+        i += 1;
+    }
+}
+
+pub fn lend_bytes(bytes: &mut [u8])
+    ensures { λ _. ⌜ Lent byteAt (now (bytes .exit)) ⌝ }
+{
+    let mut i = 0;
+    while i < bytes.len() {
+        bytes[i] = byte_at(i);
+        i += 1;
+    }
+}
+
+pub fn unchanged(list: &[u16]) -> bool
+    ensures { λ r. ⌜ (r ≡ true → Lent numberAt (now (list .entry))) × (Lent numberAt (now (list .entry)) → r ≡ true) ⌝ }
+{
+    let mut i = 0;
+    while i < list.len() {
+        if list[i] != number_at(i) {
+            return false;
+        }
+        i += 1;
+    }
+    true
+}
+
+pub fn unchanged_bytes(bytes: &[u8]) -> bool
+    ensures { λ r. ⌜ (r ≡ true → Lent byteAt (now (bytes .entry))) × (Lent byteAt (now (bytes .entry)) → r ≡ true) ⌝ }
+{
+    let mut i = 0;
+    while i < bytes.len() {
+        if bytes[i] != byte_at(i) {
+            return false;
+        }
+        i += 1;
+    }
+    true
+}

@@ -1,0 +1,68 @@
+// The words that begin a line. A new call has its name here and its branch in calls.rt.
+ghost use mathlib.Core.Path.{_≡_};
+ghost use mathlib.Core.Bool.{true};
+ghost use Prim.Native.Nat.{_≤_};
+use crate::cursor::Cursor;
+use crate::input::read_word;
+
+pub enum Name {
+    Graph,
+    Presets,
+    Incidence,
+    EdgesAt,
+    TwoColor,
+    Unknown,
+}
+
+// A name and the place after it.
+pub struct NameRead {
+    pub name: Name,
+    pub input: Cursor,
+}
+
+fn same(word: &[u8], name: &[u8]) -> bool
+    ensures { λ r. ⌜ (r ≡ true → now (word .entry) ≡ now (name .entry)) × (now (word .entry) ≡ now (name .entry) → r ≡ true) ⌝ }
+{
+    if word.len() != name.len() {
+        return false;
+    }
+    let mut i = 0;
+    while i < word.len() {
+        if word[i] != name[i] {
+            return false;
+        }
+        i += 1;
+    }
+    true
+}
+
+fn name_of(word: &[u8]) -> Name {
+    if same(word, b"graph") {
+        return Name::Graph;
+    }
+    if same(word, b"presets") {
+        return Name::Presets;
+    }
+    if same(word, b"incidence") {
+        return Name::Incidence;
+    }
+    if same(word, b"edges_at") {
+        return Name::EdgesAt;
+    }
+    if same(word, b"two_color") {
+        return Name::TwoColor;
+    }
+    Name::Unknown
+}
+
+// The line's first word.
+pub fn read_name(buffer: &mut [u8], input: Cursor) -> NameRead
+    ensures { λ r. ⌜ r .input .left ≤ input .left ⌝ }
+{
+    let mut word = [0u8; 64];
+    let read = read_word(buffer, input, &mut word);
+    let end = read.count;
+    let name = name_of(&word[..end]);
+    let input = read.input;
+    NameRead { name, input }
+}
