@@ -1,0 +1,5 @@
+-- Misra-Gries edge colouring in code: the checks, the call's answers.
+pub mod Loops
+pub mod DoubleEdges
+pub mod Call
+pub mod CallLaws

@@ -1,0 +1,2 @@
+// Misra-Gries edge colouring.
+mod checks;
