@@ -24,10 +24,10 @@ unfolding greatestColor
 greatest-colored c cs n = by-test (ltb (greatestColor cs) c) (λ t. simp (t, ne-eqb c 65535 n)) (λ t. simp t)
 
 -- The places that a list of colours has from m on are uncoloured.
-abbrev Blank : List ℕ → ℕ → Type 0
+abbrev pub Blank : List ℕ → ℕ → Type 0
 Blank l m = (j : ℕ) → m ≤ j → colorOf l j ≡ noColor
 
-greatest-blank : (l : List ℕ) → Blank l 0 → greatestColor l ≡ 0
+pub greatest-blank : (l : List ℕ) → Blank l 0 → greatestColor l ≡ 0
 unfolding greatestColor colorOf
 greatest-blank [] b = refl
 greatest-blank (c ∷ cs) b = greatest-uncolored c cs (b 0 (omega arith)) ∙ greatest-blank cs (λ j h. b (suc j) (omega arith))

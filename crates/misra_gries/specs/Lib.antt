@@ -1,6 +1,17 @@
--- Misra-Gries edge colouring in code: the checks, the call's answers.
+-- Misra-Gries edge colouring in code: the checks, the step and its parts, the tally, the run, the call's answers.
 pub mod Loops
 pub mod DoubleEdges
+pub mod Front
+pub mod MarkedFan
+pub mod MarkedFanLaws
+pub mod TablePath
+pub mod TablePlaces
+pub mod NewColors
+pub mod Step
+pub mod Range
+pub mod StepLaws
+pub mod Tally
 pub mod Days
+pub mod Run
 pub mod Call
 pub mod CallLaws

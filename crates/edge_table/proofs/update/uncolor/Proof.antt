@@ -1,0 +1,12 @@
+-- `uncolor` meets its contract: the places of the edge's colour, then the working list.
+use borrow.Author.Needs.{needs}
+use Rattle.edge_table.specs.EdgeTableLaws.{uncolor-leaves}
+use Rattle.edge_table.proofs.update.uncolor.Statement.{statement}
+use Rattle.edge_table.proofs.update.uncolor.Tie as tie
+
+pub uncolor-spec : {M : Type 1} → statement M
+uncolor-spec =
+    tie.close
+    (tie.spec
+    (λ c κs. search needs) (λ c κs. search needs) (λ c κs. search needs) (λ c. search needs) (λ c. search needs)
+    (λ c. search (needs, uncolor-leaves)))

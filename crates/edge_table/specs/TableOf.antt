@@ -1,0 +1,111 @@
+-- When a list is the edge table of a working list, that it is so at the start, and what it then answers.
+use Prim.Native.Nat.{ℕ, _+_, _*_, _≤_, _<_}
+use mathlib.Core.Path.{_≡_, refl, sym, ap, subst, _∙_}
+use mathlib.Core.Logic.{_≢_}
+use mathlib.Core.List.{List}
+use mathlib.Core.Option.{none, some}
+use native.Mathlib.Omega.{arith}
+use native.Mathlib.Decide.{decLt}
+use lib.ListN.{length, getD, replicate, length-replicate}
+use Rattle.lists.specs.Member.{Mem}
+use Rattle.graph.specs.Edges.{firstEnd, secondEnd, edgesAt, degree}
+use Rattle.graph.specs.EdgeLaws.{edge-at}
+use Rattle.vizing.specs.MisraGries.{noColor, colorOf, edgeOfColor, isNone, isFree, smallestFreeAt}
+use Rattle.vizing.specs.DefinitionLaws.{NoneHas, color-replicate, none-has-none, is-free-true, is-free-false, smallest-free-bound, smallest-free-found}
+use Rattle.vizing.specs.Coloring.{Proper}
+use Rattle.vizing.specs.Simple.{Incident}
+use Rattle.edge_table.specs.EdgeTable.{noEdge, entryOf, optionOf, entryAt, tableEdge, isEmpty, smallestEmpty, State, state}
+use Rattle.edge_table.specs.EdgeTableLaws.{getD-same, entry-edge, entry-place, no-place, reads-none, FirstEmpty, first-empty}
+use Rattle.edge_table.specs.declared.EdgeOfColor.{EdgeOfColor}
+use Rattle.edge_table.specs.declared.EdgeOfColor.the-variants.{Edge, Nothing}
+use Rattle.graph.specs.declared.EdgeIndex.{EdgeIndex}
+
+-- Each end has a row in the table, and no edge has the number that marks an empty place.
+pub record FitsTable (ends : List ℕ) (m : ℕ) : Type 0 where
+  pub edges : m ≤ 4096
+  pub nodes : (k : ℕ) → k < m → (firstEnd ends k < 512) × (secondEnd ends k < 512)
+
+-- l colours some of the m edges with colours below 576, edges that share an end differently, and T is its table: for every node and
+-- colour it says which edge there has the colour.
+pub record TableOf (ends : List ℕ) (m : ℕ) (l T : List ℕ) : Type 0 where
+  pub fits : FitsTable ends m
+  pub work-size : m ≤ length l
+  pub table-size : length T ≡ 294912
+  pub proper : Proper (Incident ends m) (colorOf l)
+  pub colors : (k : ℕ) → k < m → colorOf l k ≢ noColor → colorOf l k < 576
+  pub says : (v c : ℕ) → c ≢ noColor → tableEdge T v c ≡ edgeOfColor l c (edgesAt ends m v)
+
+-- The table beside the working list is its table.
+abbrev pub HasTable : List ℕ → ℕ → State → Type 0
+HasTable ends m s = TableOf ends m (s .work) (s .table)
+
+-- A function that left the two lists l′ and T′.
+pub leaves-table : (ends : List ℕ) (m : ℕ) (l l′ T′ : List ℕ) (s : State) → state l′ T′ ≡ s → s .work ≡ l → TableOf ends m l (s .table) → (l′ ≡ l) × TableOf ends m l′ T′
+leaves-table ends m l l′ T′ s e w L = (ap (λ (r : State). r .work) e ∙ w, subst (HasTable ends m) (sym e) (rw w L))
+
+-- ---- the start
+
+empty-replicate : (N v c : ℕ) → noEdge ≡ entryAt (replicate N noEdge) v c
+empty-replicate N v c = elim (decLt c 576) [
+  | yes h ↦ sym (entry-place (replicate N noEdge) v c h ∙ getD-same N (v * 576 + c) noEdge)
+  | no h ↦ no-place (replicate N noEdge) v c (omega arith)
+]
+
+-- No edge is coloured and every place is empty.
+pub start-table : (ends : List ℕ) (m M N : ℕ) → FitsTable ends m → m ≤ M → N ≡ 294912 → TableOf ends m (replicate M noColor) (replicate N noEdge)
+start-table ends m M N fits h e = record {
+  fits = fits;
+  work-size = rw (length-replicate M noColor) h;
+  table-size = length-replicate N noEdge ∙ e;
+  proper = λ i j v a b colored same. absurd (colored (color-replicate M i));
+  colors = λ k b colored. absurd (colored (color-replicate M k));
+  says = λ v c n. sym (reads-none (replicate N noEdge) v c noEdge (empty-replicate N v c) refl)
+      ∙ sym (none-has-none (replicate M noColor) c (edgesAt ends m v) (λ k p z. n (sym z ∙ color-replicate M k)));
+}
+
+-- ---- the answers
+
+module _ (ends : List ℕ) (m : ℕ) (l T : List ℕ) (L : TableOf ends m l T) where
+  -- What a place holds.
+  pub table-row : (v c : ℕ) → c < 576 → getD T (v * 576 + c) noEdge ≡ entryOf (edgeOfColor l c (edgesAt ends m v))
+  unfolding tableEdge
+  table-row v c h = sym (entry-place T v c h) ∙ sym (entry-edge (entryAt T v c)) ∙ ap entryOf (L .says v c (λ z. omega arith))
+
+  -- `edge_of_color`, answering r.
+  pub says-edge : (v c : ℕ) (r : EdgeOfColor) (k : EdgeIndex) → c ≢ noColor → optionOf r ≡ tableEdge T v c → r ≡ Edge k → edgeOfColor l c (edgesAt ends m v) ≡ some (k .0)
+  says-edge v c r k n e p = sym (ap optionOf (sym p) ∙ e ∙ L .says v c n)
+
+  pub says-nothing : (v c : ℕ) (r : EdgeOfColor) → c ≢ noColor → optionOf r ≡ tableEdge T v c → r ≡ Nothing → edgeOfColor l c (edgesAt ends m v) ≡ none
+  says-nothing v c r n e p = sym (ap optionOf (sym p) ∙ e ∙ L .says v c n)
+
+  -- `is_free`
+  pub says-free : (v c : ℕ) → c ≢ noColor → isEmpty T v c ≡ isFree l (edgesAt ends m v) c
+  unfolding isEmpty isFree
+  says-free v c n = ap isNone (L .says v c n)
+
+  -- `smallest_free`: where each place of the row holds an edge, 576 is free, since no edge has it.
+  pub says-smallest : (v : ℕ) → smallestEmpty T v ≡ smallestFreeAt l (edgesAt ends m v)
+  says-smallest v = sym (smallest-free-found l ks c (omega (arith, F .bound)) none-has used)
+    where
+      ks : List ℕ
+      ks = edgesAt ends m v
+
+      c : ℕ
+      c = smallestEmpty T v
+
+      F : FirstEmpty T v c
+      F = first-empty T v
+
+      none-has : NoneHas l ks c
+      none-has = elim (decLt c 576) [
+        | yes h ↦ is-free-true l ks c (sym (says-free v c (λ z. omega arith)) ∙ F .empty h)
+        | no h ↦ λ k p z. omega (arith, F .bound, L .colors k (edge-at ends m v k p .0) (λ y. omega (arith, F .bound)))
+      ]
+
+      used : (b : ℕ) → b < c → (k : ℕ) × Mem k ks × (colorOf l k ≡ b)
+      used b less = is-free-false l ks b (sym (says-free v b (λ z. omega (arith, F .bound))) ∙ F .smaller b less)
+
+  -- It has a place where fewer edges stand at the node than there are colours.
+  pub smallest-below : (v : ℕ) → degree ends m v < 576 → smallestEmpty T v < 576
+  unfolding degree
+  smallest-below v few = rw (says-smallest v) (omega (arith, smallest-free-bound l (edgesAt ends m v)))

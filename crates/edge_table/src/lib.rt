@@ -1,0 +1,38 @@
+// The edge table: beside a working list of colours, the edge of each colour at each node. Every function is total: what lies
+// outside a slice reads as its default and takes no store.
+use graph::EdgeIndex;
+
+mod lookup;
+mod update;
+
+pub use lookup::edge_of_color;
+pub use lookup::is_free;
+pub use lookup::smallest_free;
+pub use update::color;
+pub use update::repaint;
+pub use update::uncolor;
+
+// The table's sizes: a row for each node, in it a place for each colour. A simple graph of so many nodes has no degree of so many
+// colours, so one is always free.
+pub struct EdgeTable;
+
+impl EdgeTable {
+    pub const NODES: usize = 512;
+
+    pub const COLORS: usize = 576;
+
+    pub const PLACES: usize = Self::NODES * Self::COLORS;
+}
+
+// The edge of a colour at a node.
+pub enum EdgeOfColor {
+    Edge(EdgeIndex),
+    Nothing,
+}
+
+// What a place of the table holds: an edge's number, or none.
+struct Entry(u16);
+
+impl Entry {
+    const NONE: u16 = 65535;
+}

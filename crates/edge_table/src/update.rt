@@ -1,0 +1,117 @@
+// Edges lose and take colours, in the working list and in the table alike.
+use crate::{EdgeTable, Entry};
+use graph::{Color, EdgeIndex, NodeIndex};
+ghost use mathlib.Core.Path.{_≡_};
+ghost use lib.ListN.{getD, set};
+ghost use Rattle.vizing.specs.MisraGries.{colorOf};
+ghost use Rattle.edge_table.specs.EdgeTable.{entered, enteredAtEnds, state, uncolored, colored, allUncolored, allColored, repainted};
+
+// A colour without a place must not be entered in the next row.
+fn enter(table: &mut [u16], node: NodeIndex, color: Color, entry: Entry)
+    ensures { λ _. ⌜ now (table .exit) ≡ entered (now (table .entry)) (node .0) (color .0) (entry .0) ⌝ }
+{
+    let c = color.0 as usize;
+    if EdgeTable::COLORS <= c {
+        return;
+    }
+    let place = node.0 as usize * EdgeTable::COLORS + c;
+    if table.len() <= place {
+        return;
+    }
+    table[place] = entry.0;
+}
+
+// What stands at a place of the end list, 0 beyond it.
+fn end_at(ends: &[u16], place: usize) -> NodeIndex
+    ensures { λ r. ⌜ r .0 ≡ getD (now (ends .entry)) place 0 ⌝ }
+{
+    if place < ends.len() {
+        NodeIndex(ends[place])
+    } else {
+        NodeIndex(0)
+    }
+}
+
+fn enter_at_ends(ends: &[u16], table: &mut [u16], edge: EdgeIndex, color: Color, entry: Entry)
+    ensures { λ _. ⌜ now (table .exit) ≡ enteredAtEnds (now (ends .entry)) (now (table .entry)) (edge .0) (color .0) (entry .0) ⌝ }
+{
+    let k = edge.0 as usize;
+    let first = end_at(ends, 2 * k);
+    let second = end_at(ends, 2 * k + 1);
+    enter(table, first, color, entry);
+    enter(table, second, color, entry);
+}
+
+fn color_of(work: &[u16], edge: EdgeIndex) -> Color
+    ensures { λ r. ⌜ r .0 ≡ colorOf (now (work .entry)) (edge .0) ⌝ }
+{
+    let k = edge.0 as usize;
+    if k < work.len() {
+        Color(work[k])
+    } else {
+        Color(Color::NONE)
+    }
+}
+
+fn set_color(work: &mut [u16], edge: EdgeIndex, color: Color)
+    ensures { λ _. ⌜ now (work .exit) ≡ set (now (work .entry)) (edge .0) (color .0) ⌝ }
+{
+    let k = edge.0 as usize;
+    if work.len() <= k {
+        return;
+    }
+    work[k] = color.0;
+}
+
+// The edge loses its colour. Without one there is nothing to clear: none has no place in the table.
+pub fn uncolor(ends: &[u16], work: &mut [u16], table: &mut [u16], edge: EdgeIndex)
+    ensures { λ _. ⌜ state (now (work .exit)) (now (table .exit))
+        ≡ uncolored (now (ends .entry)) (state (now (work .entry)) (now (table .entry))) (edge .0) ⌝ }
+{
+    let color = color_of(work, edge);
+    enter_at_ends(ends, table, edge, color, Entry(Entry::NONE));
+    set_color(work, edge, Color(Color::NONE));
+}
+
+// The edge, which has no colour, takes this one.
+pub fn color(ends: &[u16], work: &mut [u16], table: &mut [u16], edge: EdgeIndex, color: Color)
+    ensures { λ _. ⌜ state (now (work .exit)) (now (table .exit))
+        ≡ colored (now (ends .entry)) (state (now (work .entry)) (now (table .entry))) (edge .0) (color .0) ⌝ }
+{
+    enter_at_ends(ends, table, edge, color, Entry(edge.0));
+    set_color(work, edge, color);
+}
+
+fn uncolor_all(ends: &[u16], work: &mut [u16], table: &mut [u16], edges: &[u16])
+    ensures { λ _. ⌜ state (now (work .exit)) (now (table .exit))
+        ≡ allUncolored (now (ends .entry)) (state (now (work .entry)) (now (table .entry))) (now (edges .entry)) ⌝ }
+{
+    let mut i = 0;
+    while i < edges.len() {
+        uncolor(ends, work, table, EdgeIndex(edges[i]));
+        i += 1;
+    }
+}
+
+fn color_all(ends: &[u16], work: &mut [u16], table: &mut [u16], edges: &[u16], colors: &[u16])
+    ensures { λ _. ⌜ state (now (work .exit)) (now (table .exit))
+        ≡ allColored (now (ends .entry)) (state (now (work .entry)) (now (table .entry))) (now (edges .entry)) (now (colors .entry)) ⌝ }
+{
+    let mut i = 0;
+    while i < edges.len() {
+        if colors.len() <= i {
+            return;
+        }
+        color(ends, work, table, EdgeIndex(edges[i]), Color(colors[i]));
+        i += 1;
+    }
+}
+
+// The edges take these colours in place of their own. All lose theirs first: an edge's new colour may still stand on the next.
+pub fn repaint(ends: &[u16], work: &mut [u16], table: &mut [u16], edges: &[u16], colors: &[u16])
+    ensures { λ _. ⌜ state (now (work .exit)) (now (table .exit))
+        ≡ repainted (now (ends .entry)) (state (now (work .entry)) (now (table .entry))) (now (edges .entry)) (now (colors .entry)) ⌝ }
+{
+    uncolor_all(ends, work, table, edges);
+    color_all(ends, work, table, edges, colors);
+}

@@ -1,0 +1,12 @@
+-- `color_of` meets its contract: beyond the list there is no colour.
+use mathlib.Core.Path.{sym}
+use borrow.Author.Needs.{needs}
+use Rattle.vizing.specs.DefinitionLaws.{color-read, color-outside}
+use Rattle.misra_gries.proofs.fan.color_of.Statement.{statement}
+use Rattle.misra_gries.proofs.fan.color_of.Tie as tie
+
+returns-2 : tie.Need-returns-2
+returns-2 c = sym (color-outside _ _ (c .if1 .left))
+
+pub color-of-spec : {M : Type 1} → statement M
+color-of-spec = tie.close (tie.spec (λ c. search needs) (λ c. search needs) (λ c. search needs) (λ c. search (needs, color-read)) returns-2)

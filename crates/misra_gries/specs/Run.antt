@@ -1,0 +1,108 @@
+-- The run: the working list, its table, the marks and the tally after k edges.
+use Prim.Native.Nat.{ℕ, zero, suc, _+_, _≤_, _<_, max}
+use mathlib.Core.Path.{_≡_, refl, sym, ap, _∙_}
+use mathlib.Core.List.{List}
+use mathlib.Core.Bool.{Bool, true, false, cond}
+use native.Mathlib.Omega.{arith}
+use native.Mathlib.Numerals.{add-one}
+use lib.ListN.{length, getD, take, replicate, length-replicate}
+use lib.Dec.{ltb, eqb}
+use borrow.Author.Tests.{ltb-true, ltb-false}
+use Rattle.lists.specs.Tests.{by-test}
+use Rattle.graph.specs.Edges.{edgeCount}
+use Rattle.graph.specs.Color.{daysOf}
+use Rattle.graph.specs.StretchLaws.{Table}
+use Rattle.vizing.specs.MisraGries.{noColor, colorOf, greatestColor, step, stepHeld, heldAfter, held, find}
+use Rattle.vizing.specs.Demand3.{Admitted, maxDegree, degree-max, max-degree-bound}
+use Rattle.vizing.specs.Step.{Invariant}
+use Rattle.vizing.specs.Run.{run-keeps}
+use Rattle.vizing.specs.Greatest.{greatest-step}
+use Rattle.edge_table.specs.TableOf.{TableOf, start-table}
+use Rattle.edge_table.specs.SimpleFits.{simple-fits}
+use Rattle.misra_gries.specs.declared.tally.Tally.{Tally}
+use Rattle.misra_gries.specs.Range.{palette}
+use Rattle.misra_gries.specs.Step.{InRange, Ready, Stepped, topColor}
+use Rattle.misra_gries.specs.Tally.{notedOf, Tallied}
+use Rattle.misra_gries.specs.Days.{greatest-blank, days-read}
+use Rattle.vizing.specs.DefinitionLaws.{color-replicate}
+use Rattle.edge_table.specs.EdgeTable.{noEdge}
+
+pub run-kept : (n : ℕ) (ends : List ℕ) → Admitted n ends → (k : ℕ) → k ≤ edgeCount ends → Invariant ends (edgeCount ends) (InRange n ends) k (held n ends k)
+unfolding held
+run-kept n ends a = run-keeps ends (edgeCount ends) n (InRange n ends) (a .simple) (a .inside) (a .edges) (palette n ends a)
+
+-- After k edges the working list is what the definition holds, and the tally is that of the edges so far.
+pub record Running (n : ℕ) (ends starts entries work table marks : List ℕ) (t : Tally) (k : ℕ) : Type 0 where
+  pub admitted : Admitted n ends
+  pub rows : Table ends n starts entries
+  pub bound : k ≤ edgeCount ends
+  pub list : work ≡ held n ends k
+  pub tabled : TableOf ends (edgeCount ends) work table
+  pub size : edgeCount ends ≤ length marks
+  pub unmarked : (j : ℕ) → getD marks j 0 < k + 1
+  pub edges : t .edges ≡ k
+  pub greatest : t .greatest ≡ greatestColor work
+
+greater : (a b : ℕ) → cond (ltb a b) b a ≡ max a b
+greater a b = by-test (ltb a b) (λ u. simp u (omega (arith, ltb-true a b u))) (λ u. simp u (omega (arith, ltb-false a b u)))
+
+-- The start: no edge coloured, an empty table, no marks, nothing tallied.
+pub running-start : (n : ℕ) (ends starts entries marks : List ℕ) (N : ℕ) → Admitted n ends → Table ends n starts entries → edgeCount ends ≤ length marks → ((j : ℕ) → getD marks j 0 ≡ 0) → N ≡ 294912
+    → Running n ends starts entries (replicate 4096 noColor) (replicate N noEdge) marks (record { edges = 0; greatest = 0 }) 0
+unfolding held heldAfter
+running-start n ends starts entries marks N a rows size blank e = record {
+  admitted = a;
+  rows = rows;
+  bound = omega arith;
+  list = refl;
+  tabled = start-table ends (edgeCount ends) 4096 N (simple-fits ends (edgeCount ends) n (a .simple) (a .inside) (a .nodes) (a .edges)) (a .edges) e;
+  size = size;
+  unmarked = λ j. omega (arith, blank j);
+  edges = refl;
+  greatest = sym (greatest-blank (replicate 4096 noColor) (λ j h. color-replicate 4096 j))
+}
+
+module _ (n : ℕ) (ends starts entries work table marks : List ℕ) (t : Tally) (k : ℕ) (running : Running n ends starts entries work table marks t k) where
+  now-kept : Invariant ends (edgeCount ends) (InRange n ends) k work
+  now-kept = rw (running .list) (run-kept n ends (running .admitted) k (running .bound))
+
+  pub running-ready : k < edgeCount ends → Ready n ends starts entries work table marks k
+  running-ready h = record {
+    admitted = running .admitted;
+    rows = running .rows;
+    edge = h;
+    kept = now-kept;
+    tabled = running .tabled;
+    size = running .size;
+    unmarked = running .unmarked
+  }
+
+  pub running-more : (t′ : Tally) (work′ table′ marks′ : List ℕ) → k < edgeCount ends → Tallied n ends starts entries work table marks k t t′ work′ table′ marks′ → Running n ends starts entries work′ table′ marks′ t′ (k + 1)
+  unfolding held heldAfter stepHeld topColor
+  running-more t′ work′ table′ marks′ h s =
+      let a = running .admitted in
+      let m = edgeCount ends in
+      let f = find ends m n work k in
+      let g = greatest-step ends m n (InRange n ends) (a .simple) (a .inside) (a .edges) (palette n ends a) work k h now-kept in
+      let e = s .stepped in
+      record {
+        admitted = a;
+        rows = running .rows;
+        bound = omega arith;
+        list = rw (add-one k) (e .list ∙ ap (λ (l : List ℕ). step ends m n l k) (running .list));
+        tabled = e .tabled;
+        size = omega (arith, e .size, running .size);
+        unmarked = λ j. omega (arith, e .marked j);
+        edges = ap (λ (x : Tally). x .edges) (s .noted) ∙ ap (λ (i : ℕ). i + 1) (running .edges);
+        greatest = ap (λ (x : Tally). x .greatest) (s .noted) ∙ (greater (t .greatest) (s .color) ∙ (ap (λ (i : ℕ). max i (s .color)) (running .greatest) ∙ (ap (max (greatestColor work)) (e .top) ∙ sym (ap greatestColor (e .list) ∙ g))))
+      }
+
+  -- All edges are done: the first m colours are the answer, and `days` comes from the tally.
+  pub running-done : edgeCount ends ≤ k → (take (edgeCount ends) work ≡ take (edgeCount ends) (held n ends (edgeCount ends))) × (cond (eqb (t .edges) 0) 0 (t .greatest + 1) ≡ daysOf (take (edgeCount ends) (held n ends (edgeCount ends))))
+  running-done h =
+      let m = edgeCount ends in
+      let e : k ≡ m = omega (arith, running .bound) in
+      let i : Invariant ends m (InRange n ends) m work = rw e at now-kept in
+      let same : work ≡ held n ends m = running .list ∙ ap (held n ends) e in
+      let days = days-read work m (omega (arith, i .size, running .admitted .edges)) (i .rest) (λ j b z. omega (arith, i .done j b, max-degree-bound ends m n, running .admitted .edges)) in
+      (ap (take m) same, rw (running .edges, e, running .greatest, add-one) (sym days ∙ ap (λ (l : List ℕ). daysOf (take m l)) same))

@@ -1,0 +1,185 @@
+-- Laws of the step's parts, as the code has them: the path exchanged, the fan rotated, steps 2 to 5.
+use Prim.Native.Nat.{ℕ, suc, _+_, _-_, _*_, _≤_, _<_}
+use mathlib.Core.Path.{_≡_, refl, sym, ap, _∙_, subst}
+use mathlib.Core.List.{List, [], _∷_, map}
+use mathlib.Core.Bool.{Bool, cond}
+use native.Mathlib.Omega.{arith}
+use native.Mathlib.Nat.{min-le-left}
+use lib.ListN.{length, getD, take, drop, length-map, length-take}
+use lib.Seq.{length-take-le}
+use borrow.Author.Tests.{eq-eqb, ne-eqb}
+use Rattle.graph.specs.Edges.{edgeCount, firstEnd, secondEnd, farEnd, edgesAt, degree}
+use Rattle.graph.specs.Stretch.{stretch}
+use Rattle.vizing.specs.SimpleDegree.{degree-below}
+use Rattle.misra_gries.specs.MarkedFan.{FanReady, fanOf}
+use Rattle.graph.specs.EdgeLaws.{far-first}
+use Rattle.vizing.specs.MisraGries.{noColor, colorOf, smallestFreeAt, lastFarEnd, swap, path, exchange, rotate, store, Found, find, step}
+use Rattle.vizing.specs.Step.{Invariant, FoundLaws, found-laws, step-keeps}
+use Rattle.edge_table.specs.EdgeTable.{state, repainted, smallestEmpty}
+use Rattle.edge_table.specs.TableOf.{TableOf, says-smallest, says-free}
+use Rattle.edge_table.specs.Repaint.{Repaintable, repaint-done}
+use Rattle.edge_table.specs.StepRepaint.{exchangedColors, rotatedColors, exchange-done, step-exchange, step-rotation}
+use Rattle.misra_gries.specs.TablePath.{tablePath, table-path}
+use Rattle.misra_gries.specs.TablePlaces.{tablePlaces, table-places, places-taken}
+use Rattle.misra_gries.specs.Range.{palette, max-degree-below}
+use Rattle.misra_gries.specs.Step.{InRange, Ready, Exchanging, Turning, Turned, topColor}
+
+-- ---- the path exchanged
+
+-- The colours fill as many places as there are edges.
+pub new-length : (l : List ℕ) (c d : ℕ) (es out : List ℕ) (len : ℕ) → len ≡ length es → take (length es) out ≡ exchangedColors l c d es → len ≡ length (take len out)
+new-length l c d es out len p e = p ∙ (sym (length-map es (λ (k : ℕ). swap c d (colorOf l k))) ∙ (sym (ap length e) ∙ ap (λ (i : ℕ). length (take i out)) (sym p)))
+
+module _ (ends l T : List ℕ) (n u c d : ℕ) (E : Exchanging ends n l T u c d) where
+  right-path : tablePath ends T n u d c ≡ path ends (edgeCount ends) n l u d c
+  right-path = table-path ends (edgeCount ends) l T (λ v. Unit {0}) (λ k v h. tt) n u d c tt (λ v a. E .tabled .says v d (E .d-color)) (λ v a. E .tabled .says v c (E .c-color))
+
+  pub path-exchanged : (es out l′ T′ : List ℕ) (len : ℕ) → es ≡ tablePath ends T n u d c → len ≡ length es → take (length es) out ≡ exchangedColors l c d es → state l′ T′ ≡ repainted ends (state l T) es (take len out)
+      → (len ≡ length (path ends (edgeCount ends) n l u d c)) × ((l′ ≡ exchange l c d (path ends (edgeCount ends) n l u d c)) × TableOf ends (edgeCount ends) l′ T′)
+  path-exchanged es out l′ T′ len p q r s =
+      let e = p ∙ right-path in
+      let colors : take len out ≡ exchangedColors l c d es = ap (λ (i : ℕ). take i out) q ∙ r in
+      (q ∙ ap length e, exchange-done ends (edgeCount ends) l T (E .tabled) l′ T′ c d (path ends (edgeCount ends) n l u d c) (E .allowed)
+        (s ∙ (ap (repainted ends (state l T) es) colors ∙ ap (λ (ks : List ℕ). repainted ends (state l T) ks (exchangedColors l c d ks)) e)))
+
+-- ---- the fan rotated
+
+module _ (ends l T fan : List ℕ) (d : ℕ) (L : TableOf ends (edgeCount ends) l T) (R : Repaintable ends (edgeCount ends) l fan (rotatedColors l (drop 1 fan) d)) (out : List ℕ) (e : take (length fan) out ≡ rotatedColors l (drop 1 fan) d) where
+  pub rotated-length : length fan ≡ length (take (length fan) out)
+  rotated-length = R .same-length ∙ sym (ap length e)
+
+  pub fan-rotated : (l′ T′ : List ℕ) → state l′ T′ ≡ repainted ends (state l T) fan (take (length fan) out)
+      → (l′ ≡ store l fan (rotatedColors l (drop 1 fan) d)) × TableOf ends (edgeCount ends) l′ T′
+  fan-rotated l′ T′ s = repaint-done ends (edgeCount ends) l T fan (rotatedColors l (drop 1 fan) d) L R l′ T′ (s ∙ ap (repainted ends (state l T) fan) e)
+
+-- ---- steps 2 to 5
+
+-- The far end of the fan's last edge.
+last-far : (ends : List ℕ) (u x k : ℕ) (ks : List ℕ) → farEnd ends k u ≡ x → farEnd ends (getD (k ∷ ks) (length (k ∷ ks) - 1) 0) u ≡ lastFarEnd ends u x ks
+unfolding lastFarEnd
+last-far ends u x k [] e = let z : length (k ∷ []) - 1 ≡ 0 = omega arith in ap (λ (i : ℕ). farEnd ends (getD (k ∷ []) i 0) u) z ∙ e
+last-far ends u x k (j ∷ js) e =
+    let z : length (k ∷ j ∷ js) - 1 ≡ suc (length (j ∷ js) - 1) = omega arith in
+    ap (λ (i : ℕ). farEnd ends (getD (k ∷ j ∷ js) i 0) u) z ∙ last-far ends u (farEnd ends j u) j js refl
+
+module _ (n : ℕ) (ends l T fan : List ℕ) (k u v : ℕ) (G : Turning n ends l T fan k u v) where
+  abbrev m : ℕ
+  m = edgeCount ends
+
+  abbrev found : Found
+  found = find ends m n l k
+
+  found-of : FoundLaws ends m n (InRange n ends) l k found
+  found-of = let a = G .admitted in found-laws ends m n (InRange n ends) (a .simple) (a .inside) (a .edges) (palette n ends a) l k (G .edge) (G .kept)
+
+  low : (c : ℕ) → InRange n ends c → c < 576
+  low c h = omega (arith, h, max-degree-below n ends (G .admitted))
+
+  fan-is : fan ≡ k ∷ found .fan
+  unfolding find
+  fan-is = G .fan-of
+
+  pub turn-fan : 1 ≤ length fan
+  turn-fan = rw fan-is (omega arith)
+
+  module _ (e c d : ℕ) (pe : e ≡ farEnd ends (getD fan (length fan - 1) 0) u) (pc : c ≡ smallestEmpty T u) (pd : d ≡ smallestEmpty T e) where
+    last-is : e ≡ lastFarEnd ends (firstEnd ends k) (secondEnd ends k) (found .fan)
+    last-is = pe ∙ (rw (fan-is, G .first) (last-far ends (firstEnd ends k) (secondEnd ends k) k (found .fan) (far-first ends k (firstEnd ends k) refl)))
+
+    c-is : c ≡ found .c
+    unfolding find
+    c-is = pc ∙ (says-smallest ends m l T (G .tabled) u ∙ ap (λ (x : ℕ). smallestFreeAt l (edgesAt ends m x)) (G .first))
+
+    d-is : d ≡ found .d
+    unfolding find
+    d-is = pd ∙ (says-smallest ends m l T (G .tabled) e ∙ ap (λ (x : ℕ). smallestFreeAt l (edgesAt ends m x)) last-is)
+
+    exchanging-found : Exchanging ends n l T (firstEnd ends k) (found .c) (found .d)
+    unfolding find
+    exchanging-found = record {
+      tabled = G .tabled;
+      nodes = G .admitted .nodes;
+      c-color = λ z. omega (arith, low (found .c) (found-of .allowed-c));
+      d-color = λ z. omega (arith, low (found .d) (found-of .allowed-d));
+      allowed = step-exchange ends m n (InRange n ends) low l k (G .edge) found-of
+    }
+
+    pub turn-exchanging : Exchanging ends n l T u c d
+    turn-exchanging = rw (G .first, c-is, d-is) exchanging-found
+
+    module _ (l′ T′ : List ℕ) (x : (l′ ≡ exchange l c d (path ends m n l u d c)) × TableOf ends m l′ T′) where
+      exchanged-is : l′ ≡ found .exchanged
+      unfolding find
+      exchanged-is = x .0 ∙ rw (G .first, c-is, d-is) refl
+
+      module _ (r : ℕ) (pr : r ≡ 1 + length (tablePlaces ends T′ d u v (drop 1 fan))) where
+        places-are : tablePlaces ends T′ d u v (found .fan) ≡ found .places
+        unfolding find
+        places-are =
+            table-places ends m l′ T′ (λ w. Unit {0}) d (λ w t. says-free ends m l′ T′ (x .1) w d (λ z. omega (arith, d-is, low (found .d) (found-of .allowed-d)))) u v (found .fan) tt (λ j p. tt)
+            ∙ rw (exchanged-is, d-is, G .first, G .second) refl
+
+        taken : (take r fan ≡ k ∷ found .places) × (r ≤ length fan)
+        taken = let p = places-taken ends T′ d u v k (found .fan) fan r fan-is pr in (p .0 ∙ ap (λ (ks : List ℕ). k ∷ ks) places-are, p .1)
+
+        pub turn-count : r ≡ length (take r fan)
+        turn-count = sym (length-take-le r fan (taken .1))
+
+        next-kept : Invariant ends m (InRange n ends) (suc k) (step ends m n l k)
+        next-kept = let a = G .admitted in step-keeps ends m n (InRange n ends) (a .simple) (a .inside) (a .edges) (palette n ends a) l k (G .edge) (G .kept)
+
+        rotating : Repaintable ends m l′ (k ∷ found .places) (rotatedColors l′ (found .places) d)
+        rotating = rw (exchanged-is, d-is) (step-rotation ends m n (InRange n ends) low l k (G .edge) found-of T′ (rw exchanged-is at (x .1)) (G .kept) next-kept)
+
+        pub turn-rotating : TableOf ends m l′ T′ × (Repaintable ends m l′ (take r fan) (rotatedColors l′ (drop 1 (take r fan)) d) × ((1 ≤ length (take r fan)) × (length (take r fan) ≤ 512)))
+        turn-rotating = (x .1, (rw (taken .0) rotating, (rw (taken .0) (omega arith), omega (arith, sym turn-count, taken .1, G .small))))
+
+        pub turned : (l″ T″ : List ℕ) (color : ℕ) → (l″ ≡ store l′ (take r fan) (rotatedColors l′ (drop 1 (take r fan)) d)) × TableOf ends m l″ T″ → color ≡ topColor found → Turned n ends l k color l″ T″
+        unfolding step rotate
+        turned l″ T″ color s t = record { list = s .0 ∙ rw (taken .0, exchanged-is, d-is) refl; tabled = s .1; top = t }
+
+    path-is : path ends m n l u d c ≡ found .path
+    unfolding find
+    path-is = rw (G .first, c-is, d-is) refl
+
+    -- The one new colour that may be the greatest.
+    pub top-none : (len : ℕ) → len ≡ length (path ends m n l u d c) → len ≡ 0 → d ≡ topColor found
+    unfolding topColor
+    top-none len p z = d-is ∙ sym (ap (λ (b : Bool). cond b (found .d) (found .c)) (eq-eqb (length (found .path)) 0 (sym (p ∙ ap length path-is) ∙ z)))
+
+    pub top-some : (len : ℕ) → len ≡ length (path ends m n l u d c) → (len ≡ 0 → ⊥) → c ≡ topColor found
+    unfolding topColor
+    top-some len p z = c-is ∙ sym (ap (λ (b : Bool). cond b (found .d) (found .c)) (ne-eqb (length (found .path)) 0 (λ q. z ((p ∙ ap length path-is) ∙ q))))
+
+-- ---- the step
+
+module _ (n : ℕ) (ends starts entries l T M : List ℕ) (k : ℕ) (R : Ready n ends starts entries l T M k) (u : ℕ) (pu : u ≡ getD ends (2 * k) 0) where
+  node-is : u ≡ firstEnd ends k
+  unfolding firstEnd
+  node-is = pu
+
+  node-inside : u < n
+  node-inside = rw node-is (R .admitted .inside k (R .edge) .0)
+
+  pub fan-ready : (near : List ℕ) → near ≡ stretch starts entries u → FanReady ends (edgeCount ends) l T M (k + 1) near k u
+  unfolding degree
+  fan-ready near e =
+      let m = edgeCount ends in
+      let a = R .admitted in
+      let row = e ∙ R .rows .row u node-inside in
+      record {
+        edge = R .edge;
+        node = node-is;
+        candidates = row;
+        few = rw row (omega (arith, degree-below ends m n (a .simple) (a .inside) u node-inside, a .nodes));
+        size = R .size;
+        unmarked = R .unmarked;
+        says-free = says-free ends m l T (R .tabled)
+      }
+
+  pub step-turning : (v : ℕ) (fan : List ℕ) → v ≡ getD ends (2 * k + 1) 0 → fan ≡ fanOf ends (edgeCount ends) l k → length fan ≤ 512 → Turning n ends l T fan k u v
+  unfolding secondEnd
+  step-turning v fan pv e h = record { admitted = R .admitted; edge = R .edge; kept = R .kept; tabled = R .tabled; first = node-is; second = pv; fan-of = e; small = h }
+
+pub short-take : (i b : ℕ) (xs : List ℕ) → i ≤ b → length (take i xs) ≤ b
+short-take i b xs h = omega (arith, length-take i xs, min-le-left i (length xs))

@@ -1,0 +1,95 @@
+// The step of one edge: its fan, the path exchanged, the fan rotated.
+ghost use mathlib.Core.Path.{_≡_};
+ghost use mathlib.Core.List.{_∷_};
+ghost use Prim.Native.Nat.{_+_, _≤_};
+ghost use lib.ListN.{length, drop};
+ghost use Rattle.graph.specs.Edges.{edgeCount};
+ghost use Rattle.vizing.specs.MisraGries.{path, exchange, store};
+ghost use Rattle.edge_table.specs.TableOf.{TableOf};
+ghost use Rattle.edge_table.specs.Repaint.{Repaintable};
+ghost use Rattle.edge_table.specs.StepRepaint.{exchangedColors, rotatedColors};
+ghost use Rattle.misra_gries.specs.Step.{Ready, Stepped, Exchanging, Turning, Turned};
+use crate::fan::grow;
+use crate::new_colors::shift_colors;
+use crate::new_colors::swap_colors;
+use crate::path::follow;
+use crate::places::places_to;
+use edge_table::repaint;
+use edge_table::smallest_free;
+use graph::edges_at;
+use graph::end_at;
+use graph::far_end;
+use graph::Color;
+use graph::EdgeIndex;
+use graph::NodeIndex;
+
+// The path from the node along d, c, d and so on exchanges c and d; the answer is the number of its edges.
+fn exchange_path(n: usize, ends: &[u16], work: &mut [u16], table: &mut [u16], node: NodeIndex, c: Color, d: Color) -> usize
+    requires { ⌜ Exchanging (now ends) n (now work) (now table) (node .0) (c .0) (d .0) ⌝ }
+    ensures { λ r. ⌜ r ≡ length (path (now (ends .entry)) (edgeCount (now (ends .entry))) n (now (work .entry)) (node .0) (d .0) (c .0)) ⌝ }
+    ensures { λ _. ⌜ (now (work .exit) ≡ exchange (now (work .entry)) (c .0) (d .0) (path (now (ends .entry)) (edgeCount (now (ends .entry))) n (now (work .entry)) (node .0) (d .0) (c .0)))
+        × TableOf (now (ends .entry)) (edgeCount (now (ends .entry))) (now (work .exit)) (now (table .exit)) ⌝ }
+{
+    let mut edges = [0u16; 512];
+    let mut colors = [0u16; 512];
+    let len = follow(n, ends, table, node, d, c, &mut edges);
+    swap_colors(work, &edges[..len], c, d, &mut colors);
+    repaint(ends, work, table, &edges[..len], &colors[..len]);
+    len
+}
+
+// Each of the fan's places takes the colour of the next, the last takes d.
+fn rotate_fan(ends: &[u16], work: &mut [u16], table: &mut [u16], fan: &[u16], d: Color)
+    requires { ⌜ TableOf (now ends) (edgeCount (now ends)) (now work) (now table) ⌝ }
+    requires { ⌜ Repaintable (now ends) (edgeCount (now ends)) (now work) (now fan) (rotatedColors (now work) (drop 1 (now fan)) (d .0)) ⌝ }
+    requires { ⌜ (1 ≤ length (now fan)) × (length (now fan) ≤ 512) ⌝ }
+    ensures { λ _. ⌜ (now (work .exit) ≡ store (now (work .entry)) (now (fan .entry)) (rotatedColors (now (work .entry)) (drop 1 (now (fan .entry))) (d .0)))
+        × TableOf (now (ends .entry)) (edgeCount (now (ends .entry))) (now (work .exit)) (now (table .exit)) ⌝ }
+{
+    let mut colors = [0u16; 512];
+    let len = fan.len();
+    shift_colors(work, fan, d, &mut colors);
+    repaint(ends, work, table, fan, &colors[..len]);
+}
+
+// Steps 2 to 5 for an edge whose fan is given. The answer is the one new colour that may be greater than all before.
+fn turn(n: usize, ends: &[u16], work: &mut [u16], table: &mut [u16], fan: &[u16], edge: EdgeIndex, node: NodeIndex, far: NodeIndex) -> Color
+    requires { ⌜ Turning n (now ends) (now work) (now table) (now fan) (edge .0) (node .0) (far .0) ⌝ }
+    ensures { λ r. ⌜ Turned n (now (ends .entry)) (now (work .entry)) (edge .0) (r .0) (now (work .exit)) (now (table .exit)) ⌝ }
+{
+    let last = fan.len() - 1;
+    let end = far_end(ends, EdgeIndex(fan[last]), node);
+    let c = smallest_free(table, node);
+    let d = smallest_free(table, end);
+    let len = exchange_path(n, ends, work, table, node, c, d);
+    let count = places_to(ends, table, fan, d, node, far);
+    rotate_fan(ends, work, table, &fan[..count], d);
+    if len == 0 {
+        d
+    } else {
+        c
+    }
+}
+
+// Colours one edge.
+pub fn step(
+    n: usize,
+    ends: &[u16],
+    starts: &[u16],
+    entries: &[u16],
+    work: &mut [u16],
+    table: &mut [u16],
+    marks: &mut [u16],
+    edge: EdgeIndex,
+) -> Color
+    requires { ⌜ Ready n (now ends) (now starts) (now entries) (now work) (now table) (now marks) (edge .0) ⌝ }
+    ensures { λ r. ⌜ Stepped n (now (ends .entry)) (now (starts .entry)) (now (entries .entry)) (now (work .entry)) (now (table .entry)) (now (marks .entry)) (edge .0) (r .0) (now (work .exit)) (now (table .exit)) (now (marks .exit)) ⌝ }
+{
+    let k = edge.0 as usize;
+    let node = end_at(ends, 2 * k);
+    let far = end_at(ends, 2 * k + 1);
+    let near = edges_at(starts, entries, node);
+    let mut fan = [0u16; 512];
+    let len = grow(ends, work, table, marks, edge.0 + 1, near, edge, node, &mut fan);
+    turn(n, ends, work, table, &fan[..len], edge, node, far)
+}

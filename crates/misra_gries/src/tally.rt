@@ -1,0 +1,88 @@
+// The tally of a run. The step takes it by `&mut`, together with the lists that the step writes; the loop holds it by value.
+use crate::steps::step;
+use graph::Color;
+use graph::EdgeIndex;
+ghost use mathlib.Core.Path.{_≡_};
+ghost use Prim.Native.Nat.{_<_, _+_, _^_};
+ghost use Rattle.misra_gries.specs.Step.{Ready};
+ghost use Rattle.misra_gries.specs.Tally.{notedOf, Tallied};
+
+// Edges coloured, and the greatest colour that any edge has; both 0 before the first edge.
+pub struct Tally {
+    pub edges: usize,
+    pub greatest: u16,
+}
+
+// One edge more, of this colour.
+pub fn noted(tally: Tally, color: Color) -> Tally
+    requires { ⌜ tally .edges + 1 < 2 ^ 64 ⌝ }
+    ensures { λ r. ⌜ r ≡ notedOf tally (color .0) ⌝ }
+{
+    let edges = tally.edges + 1;
+    let greatest = tally.greatest;
+    let c = color.0;
+    if greatest < c {
+        Tally {
+            edges: edges,
+            greatest: c,
+        }
+    } else {
+        Tally {
+            edges: edges,
+            greatest: greatest,
+        }
+    }
+}
+
+// Colours one edge, and notes it in the tally.
+pub fn step_tallied(
+    tally: &mut Tally,
+    n: usize,
+    ends: &[u16],
+    starts: &[u16],
+    entries: &[u16],
+    work: &mut [u16],
+    table: &mut [u16],
+    marks: &mut [u16],
+    edge: EdgeIndex,
+)
+    requires { ⌜ Ready n (now ends) (now starts) (now entries) (now work) (now table) (now marks) (edge .0) ⌝ }
+    requires { ⌜ now tally .edges + 1 < 2 ^ 64 ⌝ }
+    ensures { λ _. ⌜ Tallied n (now (ends .entry)) (now (starts .entry)) (now (entries .entry)) (now (work .entry)) (now (table .entry)) (now (marks .entry))
+        (edge .0) (now (tally .entry)) (now (tally .exit)) (now (work .exit)) (now (table .exit)) (now (marks .exit)) ⌝ }
+{
+    let color = step(n, ends, starts, entries, work, table, marks, edge);
+    *tally = noted(*tally, color);
+}
+
+// The same with the tally by value.
+pub fn step_kept(
+    tally: Tally,
+    n: usize,
+    ends: &[u16],
+    starts: &[u16],
+    entries: &[u16],
+    work: &mut [u16],
+    table: &mut [u16],
+    marks: &mut [u16],
+    edge: EdgeIndex,
+) -> Tally
+    requires { ⌜ Ready n (now ends) (now starts) (now entries) (now work) (now table) (now marks) (edge .0) ⌝ }
+    requires { ⌜ tally .edges + 1 < 2 ^ 64 ⌝ }
+    ensures { λ r. ⌜ Tallied n (now (ends .entry)) (now (starts .entry)) (now (entries .entry)) (now (work .entry)) (now (table .entry)) (now (marks .entry))
+        (edge .0) tally r (now (work .exit)) (now (table .exit)) (now (marks .exit)) ⌝ }
+{
+    let mut kept = tally;
+    step_tallied(
+        &mut kept,
+        n,
+        ends,
+        starts,
+        entries,
+        work,
+        table,
+        marks,
+        edge,
+    );
+    kept
+}
