@@ -1,8 +1,111 @@
-// Misra-Gries edge colouring.
+// Misra-Gries edge colouring: each edge a colour from 0 to D, edges that share an end different ones.
+ghost use mathlib.Core.Path.{_≡_};
+ghost use mathlib.Core.Bool.{cond, false};
+ghost use Prim.Native.Nat.{_+_, _≤_};
+ghost use lib.Dec.{eqb};
+ghost use lib.ListN.{length, take};
+ghost use Rattle.graph.specs.Report.{accepted, reportOfColoring};
+ghost use Rattle.graph.specs.CheckLaws.{Passed};
+ghost use Rattle.graph.specs.Edges.{edgeCount};
+ghost use Rattle.graph.specs.Color.{daysOf};
+ghost use Rattle.graph.specs.StretchLaws.{Table};
+ghost use Rattle.vizing.specs.MisraGries.{hasLoop, held, misraGries};
+ghost use Rattle.vizing.specs.Demand3.{Admitted};
+ghost use Rattle.misra_gries.specs.Call.{lastOutcome, DateTable};
+use checks::has_double_edge;
+use checks::has_loop;
+use edge_table::EdgeTable;
+use graph::check_graph;
+use graph::copy_colors;
+use graph::incidence;
+use graph::Checked;
+use graph::Color;
+use graph::Coloring;
+use graph::Refusal;
+use run::run;
+use tally::Tally;
+
 mod checks;
 mod fan;
 mod new_colors;
 mod path;
 mod places;
+mod run;
 mod steps;
 mod tally;
+
+// Days from the tally: the list is not gone through again.
+fn days_of_tally(tally: Tally) -> usize
+    ensures { λ r. ⌜ r ≡ cond (eqb (tally .edges) 0) 0 (tally .greatest + 1) ⌝ }
+{
+    if tally.edges == 0 {
+        return 0;
+    }
+    tally.greatest as usize + 1
+}
+
+// The table at the front of the lent slices.
+fn make_table(n: usize, ends: &[u16], starts: &mut [u16], entries: &mut [u16])
+    requires { ⌜ Passed n (now ends) ⌝ }
+    requires { ⌜ (length (now starts) ≡ 513) × (length (now entries) ≡ 8192) ⌝ }
+    ensures { λ _. ⌜ Table (now (ends .entry)) n (now (starts .exit)) (now (entries .exit)) ⌝ }
+{
+    incidence(n, ends, &mut starts[..n + 1], &mut entries[..ends.len()]);
+}
+
+// The run on an admitted list, its colours copied out.
+fn color_simple(n: usize, ends: &[u16], starts: &[u16], entries: &[u16], colors: &mut [u16]) -> Coloring
+    requires { ⌜ Admitted n (now ends) ⌝ }
+    requires { ⌜ Table (now ends) n (now starts) (now entries) ⌝ }
+    requires { ⌜ length (now colors) ≡ edgeCount (now ends) ⌝ }
+    ensures { λ r. ⌜ reportOfColoring r ≡ accepted (daysOf (take (edgeCount (now (ends .entry))) (held n (now (ends .entry)) (edgeCount (now (ends .entry)))))) ⌝ }
+    ensures { λ _. ⌜ now (colors .exit) ≡ take (edgeCount (now (ends .entry))) (held n (now (ends .entry)) (edgeCount (now (ends .entry)))) ⌝ }
+{
+    let mut work = [Color::NONE; 4096];
+    let mut table = [Color::NONE; EdgeTable::PLACES];
+    let mut marks = [0u16; 4096];
+    let tally = run(n, ends, starts, entries, &mut work, &mut table, &mut marks);
+    let m = ends.len() / 2;
+    copy_colors(&work[..m], colors);
+    let days = days_of_tally(tally);
+    Coloring::Accepted { days }
+}
+
+// A graph without loops that passed the checks, and a place for each edge.
+fn color_checked(n: usize, ends: &[u16], colors: &mut [u16]) -> Coloring
+    requires { ⌜ Passed n (now ends) ⌝ }
+    requires { ⌜ hasLoop (now ends) (edgeCount (now ends)) ≡ false ⌝ }
+    requires { ⌜ length (now colors) ≡ edgeCount (now ends) ⌝ }
+    ensures { λ r. ⌜ reportOfColoring r ≡ lastOutcome n (now (ends .entry)) (now (colors .entry)) .report ⌝ }
+    ensures { λ _. ⌜ now (colors .exit) ≡ lastOutcome n (now (ends .entry)) (now (colors .entry)) .colors ⌝ }
+{
+    let mut starts = [0u16; 513];
+    let mut entries = [0u16; 8192];
+    make_table(n, ends, &mut starts, &mut entries);
+    if has_double_edge(n, ends, &starts, &entries) {
+        return Coloring::Refused(Refusal::DoubleEdge);
+    }
+    color_simple(n, ends, &starts, &entries, colors)
+}
+
+// Each edge gets a colour, by Misra and Gries 1992.
+pub fn misra_gries_edge_color(n: usize, ends: &[u16], colors: &mut [u16]) -> Coloring
+    ensures { λ r. ⌜ reportOfColoring r ≡ misraGries n (now (ends .entry)) (now (colors .entry)) .report ⌝ }
+    ensures { λ _. ⌜ now (colors .exit) ≡ misraGries n (now (ends .entry)) (now (colors .entry)) .colors ⌝ }
+    ensures dates { λ r. ⌜ DateTable n (now (ends .entry)) (now (colors .entry)) (reportOfColoring r) (now (colors .exit)) ⌝ }
+{
+    match check_graph(n, ends) {
+        Checked::Refused(refusal) => {
+            return Coloring::Refused(refusal);
+        }
+        Checked::Accepted(graph) => {
+            if colors.len() != graph.edges {
+                return Coloring::Refused(Refusal::WrongLength);
+            }
+            if has_loop(ends) {
+                return Coloring::Refused(Refusal::Loop);
+            }
+            color_checked(n, ends, colors)
+        }
+    }
+}

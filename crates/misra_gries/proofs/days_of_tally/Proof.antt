@@ -1,0 +1,23 @@
+use borrow.Author.Tests.{eq-eqb, ne-eqb}
+use borrow.Author.Needs.{needs}
+use native.Mathlib.Omega.{arith}
+use borrow.Author.Needs.{needs}
+use Rattle.misra_gries.proofs.days_of_tally.Statement.{statement}
+use Rattle.misra_gries.proofs.days_of_tally.Tie as tie
+use Rattle.misra_gries.proofs.days_of_tally.Reads as reads
+use Rattle.misra_gries.proofs.days_of_tally.Lts as lts
+
+returns : tie.Need-returns
+returns c = simp (eq-eqb _ _ (c .if1 .taken))
+
+cast-result : tie.Need-cast-result
+cast-result c = search needs
+
+add-result : tie.Need-add-result
+add-result c = search needs
+
+returns-2 : tie.Need-returns-2
+returns-2 c = simp (ne-eqb _ _ (c .before .if1 .left))
+
+pub days-of-tally-spec : {M : Type 1} → statement M
+days-of-tally-spec = tie.close (tie.spec returns cast-result add-result returns-2)

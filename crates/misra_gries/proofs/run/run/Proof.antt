@@ -1,0 +1,66 @@
+use Prim.Native.Nat.{_-_}
+use mathlib.Core.Path.{_≡_}
+use lib.ListN.{length}
+use Rattle.misra_gries.specs.Run.{Running, running-ready, running-more}
+use mathlib.Core.Path.{refl}
+use Rattle.graph.specs.Edges.{edgeCount}
+use borrow.Author.Needs.{needs}
+use native.Mathlib.Omega.{arith}
+use Rattle.misra_gries.proofs.run.run.Statement.{statement}
+use Rattle.misra_gries.proofs.run.run.Tie as tie
+use Rattle.misra_gries.proofs.run.run.Reads as reads
+use Rattle.misra_gries.proofs.run.run.Lts as lts
+use Rattle.misra_gries.proofs.tally.step_kept.Reads as step-kept-reads
+
+abbrev Inv-loop : tie.InvT-loop
+Inv-loop n ends starts entries work₀ table₀ marks₀ m tally₀ k₀ work table marks tally k = Running n ends starts entries work table marks tally k × (length work ≡ length work₀) × (length table ≡ length table₀) × (length marks ≡ length marks₀)
+
+abbrev μ-loop : tie.MeasureT-loop
+μ-loop n ends starts entries work₀ table₀ marks₀ m tally₀ k₀ work table marks tally k = m - k
+
+loop-holds : tie.Need-loop-holds Inv-loop μ-loop
+loop-holds c = (c .before .before .before .before .before .before .pre, refl, refl, refl)
+
+cast-t19 : tie.Need-cast-t19 Inv-loop μ-loop
+cast-t19 c = search needs
+
+step-kept-requires : tie.Need-step-kept-requires Inv-loop μ-loop
+step-kept-requires c κs = let i = c .before .before .before .before .loop .inv .0 in (running-ready _ _ _ _ _ _ _ _ _ i (c .before .before .before .loop-test .taken), omega (arith, i .edges, i .bound, i .admitted .edges))
+
+add-k : tie.Need-add-k Inv-loop μ-loop
+add-k c = search needs
+
+loop-less : tie.Need-loop-less Inv-loop μ-loop
+loop-less c = search needs
+
+loop-again : tie.Need-loop-again Inv-loop μ-loop
+loop-again c = (running-more _ _ _ _ _ _ _ _ _ (c .before .before .before .before .before .before .before .before .before .before .before .loop .inv .0) _ _ _ _ (c .before .before .before .before .before .before .before .before .before .before .loop-test .taken) (c .before .before .before .before .before .before .step-kept .ensures), search needs, search needs, search needs)
+
+same-length : tie.Need-same-length Inv-loop μ-loop
+same-length c = search needs
+
+same-length-2 : tie.Need-same-length-2 Inv-loop μ-loop
+same-length-2 c = search needs
+
+same-length-3 : tie.Need-same-length-3 Inv-loop μ-loop
+same-length-3 c = search needs
+
+returns : tie.Need-returns Inv-loop μ-loop
+returns c = let i = c .before .loop .inv .0 in let e : c .before .loop .k ≡ edgeCount (c .before .before .before .before .before .before .before .before .args .ends .now) = omega (arith, i .bound, c .loop-test .left) in rw e at i
+
+pub run-spec : {M : Type 1} → statement M
+run-spec =
+    tie.close
+    (tie.spec
+    Inv-loop
+    μ-loop
+    loop-holds
+    cast-t19
+    step-kept-requires
+    add-k
+    loop-less
+    loop-again
+    same-length
+    same-length-2
+    same-length-3
+    returns)
