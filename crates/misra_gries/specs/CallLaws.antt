@@ -9,7 +9,7 @@ use lib.Dec.{eqb}
 use borrow.Author.Tests.{eq-eqb, ne-eqb}
 use Rattle.graph.specs.Report.{Report, accepted, refused, number, reportOfChecked}
 use Rattle.graph.specs.Check.{Check, _gives_, firstRefusal, answered, written, graphChecks, lengthCheck, checkGraph}
-use Rattle.graph.specs.CheckLaws.{Passed, passed, refused-first, passed-first, first-refuses, first-passes, all-passed, answered-refused, answered-accepted, written-refused, written-accepted, graph-refused, graph-accepted}
+use Rattle.graph.specs.CheckLaws.{Passed, passed, passed-inside, refused-first, passed-first, first-refuses, first-passes, all-passed, answered-refused, answered-accepted, written-refused, written-accepted, graph-refused, graph-accepted}
 use Rattle.graph.specs.Edges.{edgeCount}
 use Rattle.graph.specs.Color.{Outcome, colored, daysOf}
 use Rattle.graph.specs.declared.Refusal.{Refusal}
@@ -17,10 +17,16 @@ use Rattle.graph.specs.declared.Graph.{Graph}
 use Rattle.graph.specs.declared.Checked.{Checked}
 use Rattle.graph.specs.declared.Checked.the-variants as C
 use Rattle.vizing.specs.MisraGries.{held, hasLoop, hasDoubleEdge, misraGriesChecks, misraGries}
+use Rattle.vizing.specs.Demand3.{Admitted}
+use Rattle.vizing.specs.Simple.{passed-simple}
 use Rattle.vizing.specs.Theorem.{demand3}
 use Rattle.misra_gries.specs.Call.{lastOutcome, Demand3Of, DateTable}
 
 -- ---- where all checks but 7 pass
+
+-- What passed every check is one of demand 3's graphs.
+pub passed-admitted : (n : ℕ) (ends : List ℕ) → Passed n ends → hasLoop ends (edgeCount ends) ≡ false → hasDoubleEdge ends (edgeCount ends) ≡ false → Admitted n ends
+passed-admitted n ends p loop double = record { nodes = p .nodes; even = p .even; edges = p .edges; inside = passed-inside n ends p; simple = passed-simple ends (edgeCount ends) loop double }
 
 module _ (n : ℕ) (ends lent : List ℕ) where
   pub double-no : hasDoubleEdge ends (edgeCount ends) ≡ true → (refused 7 ≡ lastOutcome n ends lent .report) × (lent ≡ lastOutcome n ends lent .colors)

@@ -26,6 +26,7 @@ use Rattle.misra_gries.specs.Tally.{notedOf, Tallied}
 use Rattle.misra_gries.specs.Days.{greatest-blank, days-read}
 use Rattle.vizing.specs.DefinitionLaws.{color-replicate}
 use Rattle.edge_table.specs.EdgeTable.{noEdge}
+use Rattle.edge_table.specs.EdgeTableLaws.{getD-same}
 
 pub run-kept : (n : ℕ) (ends : List ℕ) → Admitted n ends → (k : ℕ) → k ≤ edgeCount ends → Invariant ends (edgeCount ends) (InRange n ends) k (held n ends k)
 unfolding held
@@ -62,9 +63,18 @@ running-start n ends starts entries marks N a rows size blank e = record {
   greatest = sym (greatest-blank (replicate 4096 noColor) (λ j h. color-replicate 4096 j))
 }
 
+-- The same with the lists of the call.
+pub running-begin : (n : ℕ) (ends starts entries : List ℕ) (N : ℕ) → Admitted n ends → Table ends n starts entries → N ≡ 294912
+    → Running n ends starts entries (replicate 4096 noColor) (replicate N noEdge) (replicate 4096 0) (record { edges = 0; greatest = 0 }) 0
+running-begin n ends starts entries N a rows e =
+    running-start n ends starts entries (replicate 4096 0) N a rows (rw (length-replicate {A = ℕ} 4096 0) (a .edges)) (λ j. getD-same 4096 j 0) e
+
 module _ (n : ℕ) (ends starts entries work table marks : List ℕ) (t : Tally) (k : ℕ) (running : Running n ends starts entries work table marks t k) where
   now-kept : Invariant ends (edgeCount ends) (InRange n ends) k work
   now-kept = rw (running .list) (run-kept n ends (running .admitted) k (running .bound))
+
+  pub running-room : edgeCount ends ≤ length work
+  running-room = omega (arith, now-kept .size, running .admitted .edges)
 
   pub running-ready : k < edgeCount ends → Ready n ends starts entries work table marks k
   running-ready h = record {

@@ -1,3 +1,5 @@
+use mathlib.Core.Path.{refl, sym, _∙_}
+use Rattle.misra_gries.specs.CallLaws.{double-no, passed-admitted, simple-yes}
 use borrow.Author.Needs.{needs}
 use native.Mathlib.Omega.{arith}
 use borrow.Author.Needs.{needs}
@@ -28,7 +30,7 @@ has-double-edge-requires : tie.Need-has-double-edge-requires
 has-double-edge-requires c κs = search needs
 
 returns : tie.Need-returns
-returns c = search needs
+returns c = double-no _ _ _ (sym (c .before .has-double-edge .ensures) ∙ c .if1 .taken)
 
 slice-aggregate-color-simple : tie.Need-slice-aggregate-color-simple
 slice-aggregate-color-simple c = search needs
@@ -37,13 +39,16 @@ slice-aggregate-color-simple-2 : tie.Need-slice-aggregate-color-simple-2
 slice-aggregate-color-simple-2 c = search needs
 
 color-simple-requires : tie.Need-color-simple-requires
-color-simple-requires c κs = search needs
+color-simple-requires c κs = let p = c .before .before .before .before .before .before .before .before .before .before .before .before .before .before .pre .0 in (passed-admitted _ _ p (c .before .before .before .before .before .before .before .before .before .before .before .before .before .before .pre .1 .0) (sym (c .before .before .before .before .has-double-edge .ensures) ∙ c .before .before .before .if1 .left), (c .before .before .before .before .before .before .before .before .before .make-table .ensures, c .before .before .before .before .before .before .before .before .before .before .before .before .before .before .pre .1 .1))
 
 same-length : tie.Need-same-length
 same-length c = search needs
 
 returns-2 : tie.Need-returns-2
-returns-2 c = search needs
+returns-2 c = 
+    let r = c .before .before .color-simple .ensures in
+    let o = simple-yes _ _ _ _ _ (sym (c .before .before .before .before .before .before .before .has-double-edge .ensures) ∙ c .before .before .before .before .before .before .if1 .left) (r .1) refl in
+    (r .0 ∙ o .0, o .1)
 
 pub color-checked-spec : {M : Type 1} → statement M
 color-checked-spec =

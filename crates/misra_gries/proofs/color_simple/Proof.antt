@@ -1,3 +1,8 @@
+use mathlib.Core.Path.{refl, sym, ap, _∙_}
+use lib.Seq.{length-take-le}
+use Rattle.lists.specs.Parts.{copied-same}
+use Rattle.graph.specs.Report.{accepted}
+use Rattle.misra_gries.specs.Run.{running-begin, running-room, running-done}
 use borrow.Author.Needs.{needs}
 use native.Mathlib.Omega.{arith}
 use borrow.Author.Needs.{needs}
@@ -19,13 +24,13 @@ slice-aggregate-run-3 : tie.Need-slice-aggregate-run-3
 slice-aggregate-run-3 c = search needs
 
 run-requires : tie.Need-run-requires
-run-requires c κs = search needs
+run-requires c κs = running-begin _ _ _ _ 294912 (c .before .before .before .before .before .before .before .pre .0) (c .before .before .before .before .before .before .before .pre .1 .0) refl
 
 array-share-prefix-work : tie.Need-array-share-prefix-work
 array-share-prefix-work c = search needs
 
 slice-aggregate-copy-colors : tie.Need-slice-aggregate-copy-colors
-slice-aggregate-copy-colors c = search needs
+slice-aggregate-copy-colors c = sym (length-take-le _ _ (running-room _ _ _ _ _ _ _ _ _ (c .before .before .before .before .run .ensures)))
 
 copy-colors-requires : tie.Need-copy-colors-requires
 copy-colors-requires c κs = search needs
@@ -37,7 +42,10 @@ same-length : tie.Need-same-length
 same-length c = search needs
 
 returns : tie.Need-returns
-returns c = search needs
+returns c = 
+    let r = c .before .before .before .before .before .before .before .before .before .run .ensures in
+    let d = running-done _ _ _ _ _ _ _ _ _ r (omega arith) in
+    (ap accepted (c .days-of-tally .ensures ∙ d .1), c .before .before .before .copy-colors .ensures ∙ (copied-same _ _ (c .before .before .before .before .before .before .before .before .before .before .before .before .before .before .before .before .before .pre .1 .1 ∙ sym (length-take-le _ _ (running-room _ _ _ _ _ _ _ _ _ r))) ∙ d .0))
 
 pub color-simple-spec : {M : Type 1} → statement M
 color-simple-spec =
