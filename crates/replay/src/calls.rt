@@ -56,6 +56,16 @@ fn call_two_color(text: &mut [u8], waiting: usize, n: usize, ends: &[u16], line:
     put(text, end, b'\n')
 }
 
+fn call_misra_gries(text: &mut [u8], waiting: usize, n: usize, ends: &[u16], line: Line, list: &mut [u16]) -> usize {
+    let c = cut(line.first, list);
+    let colors = &mut list[..c];
+    lend(colors);
+    let answer = misra_gries::misra_gries_edge_color(n, ends, colors);
+    let end = put_coloring(text, waiting, b"misra_gries_edge_color", answer);
+    let end = put_list(text, end, colors);
+    put(text, end, b'\n')
+}
+
 // The line's call; a line that is none prints nothing. No call takes the presets yet.
 pub fn call(
     text: &mut [u8],
@@ -76,6 +86,7 @@ pub fn call(
         Name::Incidence => call_incidence(text, waiting, n, ends, line, list, entries),
         Name::EdgesAt => call_edges_at(text, waiting, line, list, entries),
         Name::TwoColor => call_two_color(text, waiting, n, ends, line, bytes),
+        Name::MisraGriesEdgeColor => call_misra_gries(text, waiting, n, ends, line, list),
         _ => waiting,
     }
 }

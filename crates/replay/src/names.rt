@@ -11,6 +11,7 @@ pub enum Name {
     Incidence,
     EdgesAt,
     TwoColor,
+    MisraGriesEdgeColor,
     Unknown,
 }
 
@@ -51,6 +52,9 @@ fn name_of(word: &[u8]) -> Name {
     }
     if same(word, b"two_color") {
         return Name::TwoColor;
+    }
+    if same(word, b"misra_gries_edge_color") {
+        return Name::MisraGriesEdgeColor;
     }
     Name::Unknown
 }

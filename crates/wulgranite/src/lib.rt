@@ -14,4 +14,5 @@ pub use graph::edge_at;
 pub use graph::edges_at;
 pub use graph::far_end;
 pub use graph::incidence;
+pub use misra_gries::misra_gries_edge_color;
 pub use two_color::two_color;
