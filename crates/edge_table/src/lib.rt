@@ -9,6 +9,7 @@ pub use lookup::edge_of_color;
 pub use lookup::is_free;
 pub use lookup::smallest_free;
 pub use update::color;
+pub use update::color_of;
 pub use update::repaint;
 pub use update::uncolor;
 

@@ -1,8 +1,9 @@
 // Edges lose and take colours, in the working list and in the table alike.
 use crate::{EdgeTable, Entry};
+use graph::end_at;
 use graph::{Color, EdgeIndex, NodeIndex};
 ghost use mathlib.Core.Path.{_≡_};
-ghost use lib.ListN.{getD, set};
+ghost use lib.ListN.{set};
 ghost use Rattle.vizing.specs.MisraGries.{colorOf};
 ghost use Rattle.edge_table.specs.EdgeTable.{entered, enteredAtEnds, state, uncolored, colored, allUncolored, allColored, repainted};
 
@@ -21,17 +22,6 @@ fn enter(table: &mut [u16], node: NodeIndex, color: Color, entry: Entry)
     table[place] = entry.0;
 }
 
-// What stands at a place of the end list, 0 beyond it.
-fn end_at(ends: &[u16], place: usize) -> NodeIndex
-    ensures { λ r. ⌜ r .0 ≡ getD (now (ends .entry)) place 0 ⌝ }
-{
-    if place < ends.len() {
-        NodeIndex(ends[place])
-    } else {
-        NodeIndex(0)
-    }
-}
-
 fn enter_at_ends(ends: &[u16], table: &mut [u16], edge: EdgeIndex, color: Color, entry: Entry)
     ensures { λ _. ⌜ now (table .exit) ≡ enteredAtEnds (now (ends .entry)) (now (table .entry)) (edge .0) (color .0) (entry .0) ⌝ }
 {
@@ -42,7 +32,8 @@ fn enter_at_ends(ends: &[u16], table: &mut [u16], edge: EdgeIndex, color: Color,
     enter(table, second, color, entry);
 }
 
-fn color_of(work: &[u16], edge: EdgeIndex) -> Color
+// What the working list holds for an edge; none beyond it.
+pub fn color_of(work: &[u16], edge: EdgeIndex) -> Color
     ensures { λ r. ⌜ r .0 ≡ colorOf (now (work .entry)) (edge .0) ⌝ }
 {
     let k = edge.0 as usize;

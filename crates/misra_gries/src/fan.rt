@@ -1,5 +1,6 @@
 // The fan (step 1). The edges in it are those whose mark is the stamp of this step. Marks of earlier steps are lower, so none is
 // ever cleared. No candidate before a place `lo` can join any more, so every search starts there.
+use edge_table::color_of;
 use edge_table::is_free;
 use graph::Color;
 use graph::EdgeIndex;
@@ -10,24 +11,12 @@ ghost use mathlib.Core.Bool.{true};
 ghost use Prim.Native.Nat.{ℕ, _≤_, _<_};
 ghost use lib.ListN.{length, getD, set, take, drop};
 ghost use Rattle.graph.specs.Edges.{edgeCount};
-ghost use Rattle.vizing.specs.MisraGries.{colorOf};
 ghost use Rattle.misra_gries.specs.MarkedFan.{optionOf, firstThat, mayJoin, joinsMarked, Passed, fanOf, FanReady};
 
 // The candidate that joins next.
 enum Joining {
     Edge(EdgeIndex),
     Nothing,
-}
-
-fn color_of(work: &[u16], edge: EdgeIndex) -> Color
-    ensures { λ r. ⌜ r .0 ≡ colorOf (now (work .entry)) (edge .0) ⌝ }
-{
-    let k = edge.0 as usize;
-    if k < work.len() {
-        Color(work[k])
-    } else {
-        Color(Color::NONE)
-    }
 }
 
 // The stamp of the last step whose fan had the edge, 0 if none had.

@@ -1,21 +1,11 @@
 // The colours that the path's edges and the fan's places take (steps 3 and 5). All are read here before `repaint` stores any.
+use edge_table::color_of;
 use graph::{Color, EdgeIndex};
 ghost use mathlib.Core.Path.{_≡_};
 ghost use Prim.Native.Nat.{_≤_};
 ghost use lib.ListN.{length, take, drop};
-ghost use Rattle.vizing.specs.MisraGries.{colorOf, swap};
+ghost use Rattle.vizing.specs.MisraGries.{swap};
 ghost use Rattle.edge_table.specs.StepRepaint.{exchangedColors, rotatedColors};
-
-fn color_of(work: &[u16], edge: EdgeIndex) -> Color
-    ensures { λ r. ⌜ r .0 ≡ colorOf (now (work .entry)) (edge .0) ⌝ }
-{
-    let k = edge.0 as usize;
-    if k < work.len() {
-        Color(work[k])
-    } else {
-        Color(Color::NONE)
-    }
-}
 
 // The other of c and d, or the colour itself if it is neither.
 fn swapped(c: Color, d: Color, color: Color) -> Color
