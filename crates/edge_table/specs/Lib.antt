@@ -2,7 +2,6 @@
 pub mod EdgeTable
 pub mod EdgeTableLaws
 pub mod TableOf
-pub mod SimpleFits
 pub mod Changes
 pub mod Repaint
 pub mod StepRepaint

@@ -17,8 +17,7 @@ use Rattle.vizing.specs.Demand3.{Admitted, maxDegree, degree-max, max-degree-bo
 use Rattle.vizing.specs.Step.{Invariant}
 use Rattle.vizing.specs.Run.{run-keeps}
 use Rattle.vizing.specs.Greatest.{greatest-step}
-use Rattle.edge_table.specs.TableOf.{TableOf, start-table}
-use Rattle.edge_table.specs.SimpleFits.{simple-fits}
+use Rattle.edge_table.specs.TableOf.{FitsTable, TableOf, start-table}
 use Rattle.misra_gries.specs.declared.tally.Tally.{Tally}
 use Rattle.misra_gries.specs.Range.{palette}
 use Rattle.misra_gries.specs.Step.{InRange, Ready, Stepped, topColor}
@@ -47,6 +46,9 @@ pub record Running (n : ℕ) (ends starts entries work table marks : List ℕ) (
 greater : (a b : ℕ) → cond (ltb a b) b a ≡ max a b
 greater a b = by-test (ltb a b) (λ u. simp u (omega (arith, ltb-true a b u))) (λ u. simp u (omega (arith, ltb-false a b u)))
 
+fits-table : (n : ℕ) (ends : List ℕ) → Admitted n ends → FitsTable ends (edgeCount ends)
+fits-table n ends a = record { edges = a .edges; nodes = λ k h. (omega (arith, a .inside k h .0, a .nodes), omega (arith, a .inside k h .1, a .nodes)) }
+
 -- The start: no edge coloured, an empty table, no marks, nothing tallied.
 pub running-start : (n : ℕ) (ends starts entries marks : List ℕ) (N : ℕ) → Admitted n ends → Table ends n starts entries → edgeCount ends ≤ length marks → ((j : ℕ) → getD marks j 0 ≡ 0) → N ≡ 294912
     → Running n ends starts entries (replicate 4096 noColor) (replicate N noEdge) marks (record { edges = 0; greatest = 0 }) 0
@@ -56,7 +58,7 @@ running-start n ends starts entries marks N a rows size blank e = record {
   rows = rows;
   bound = omega arith;
   list = refl;
-  tabled = start-table ends (edgeCount ends) 4096 N (simple-fits ends (edgeCount ends) n (a .simple) (a .inside) (a .nodes) (a .edges)) (a .edges) e;
+  tabled = start-table ends (edgeCount ends) 4096 N (fits-table n ends a) (a .edges) e;
   size = size;
   unmarked = λ j. omega (arith, blank j);
   edges = refl;
