@@ -105,7 +105,7 @@ module _ (ends : List ℕ) (m n : ℕ) where
         (λ j h. exchanged-uncolored k rest j (omega arith))
         (λ j p. elim p [
           | inl q ↦ omega arith
-          | inr q ↦ omega (arith, fan-before k rest j (places-in-fan ends m (f .exchanged) (f .d) (firstEnd ends k) (secondEnd ends k) (f .fan) j q))
+          | inr q ↦ omega (arith, fan-before k rest j (places-in-fan ends m _ _ _ _ (f .fan) j q))
         ])
 
   -- ---- the run
