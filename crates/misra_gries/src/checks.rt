@@ -13,7 +13,7 @@ ghost use Rattle.graph.specs.StretchLaws.{Table};
 ghost use Rattle.misra_gries.specs.DoubleEdges.{Ready, Tells};
 
 // Whether some edge has equal ends.
-pub fn has_loop(ends: &[u16]) -> bool
+pub(crate) fn has_loop(ends: &[u16]) -> bool
     ensures { λ r. ⌜ r ≡ hasLoop (now (ends .entry)) (edgeCount (now (ends .entry))) ⌝ }
 {
     let m = ends.len() / 2;
@@ -53,7 +53,7 @@ fn node_has_double(ends: &[u16], edges: &[u16], node: NodeIndex, seen: &mut [u16
 }
 
 // Whether two edges have the same ends, in either order: both stand at each of the two nodes, with the same far end.
-pub fn has_double_edge(n: usize, ends: &[u16], starts: &[u16], entries: &[u16]) -> bool
+pub(crate) fn has_double_edge(n: usize, ends: &[u16], starts: &[u16], entries: &[u16]) -> bool
     requires { ⌜ Passed n (now ends) ⌝ }
     requires { ⌜ hasLoop (now ends) (edgeCount (now ends)) ≡ false ⌝ }
     requires { ⌜ Table (now ends) n (now starts) (now entries) ⌝ }

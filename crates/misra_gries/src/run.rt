@@ -6,7 +6,7 @@ use crate::tally::Tally;
 use graph::EdgeIndex;
 
 // Colours every edge in turn, and tallies them.
-pub fn run(n: usize, ends: &[u16], starts: &[u16], entries: &[u16], work: &mut [u16], table: &mut [u16], marks: &mut [u16]) -> Tally
+pub(crate) fn run(n: usize, ends: &[u16], starts: &[u16], entries: &[u16], work: &mut [u16], table: &mut [u16], marks: &mut [u16]) -> Tally
     requires { ⌜ Running n (now ends) (now starts) (now entries) (now work) (now table) (now marks) (record { edges = 0; greatest = 0 }) 0 ⌝ }
     ensures { λ r. ⌜ Running n (now (ends .entry)) (now (starts .entry)) (now (entries .entry)) (now (work .exit)) (now (table .exit)) (now (marks .exit)) r (edgeCount (now (ends .entry))) ⌝ }
 {

@@ -72,7 +72,7 @@ fn turn(n: usize, ends: &[u16], work: &mut [u16], table: &mut [u16], fan: &[u16]
 }
 
 // Colours one edge.
-pub fn step(
+pub(crate) fn step(
     n: usize,
     ends: &[u16],
     starts: &[u16],

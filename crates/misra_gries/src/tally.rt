@@ -8,13 +8,13 @@ ghost use Rattle.misra_gries.specs.Step.{Ready};
 ghost use Rattle.misra_gries.specs.Tally.{notedOf, Tallied};
 
 // Edges coloured, and the greatest colour that any edge has; both 0 before the first edge.
-pub struct Tally {
+pub(crate) struct Tally {
     pub edges: usize,
     pub greatest: u16,
 }
 
 // One edge more, of this colour.
-pub fn noted(tally: Tally, color: Color) -> Tally
+pub(crate) fn noted(tally: Tally, color: Color) -> Tally
     requires { ⌜ tally .edges + 1 < 2 ^ 64 ⌝ }
     ensures { λ r. ⌜ r ≡ notedOf tally (color .0) ⌝ }
 {
@@ -35,7 +35,7 @@ pub fn noted(tally: Tally, color: Color) -> Tally
 }
 
 // Colours one edge, and notes it in the tally.
-pub fn step_tallied(
+pub(crate) fn step_tallied(
     tally: &mut Tally,
     n: usize,
     ends: &[u16],
@@ -56,7 +56,7 @@ pub fn step_tallied(
 }
 
 // The same with the tally by value.
-pub fn step_kept(
+pub(crate) fn step_kept(
     tally: Tally,
     n: usize,
     ends: &[u16],

@@ -206,7 +206,7 @@ fn color_components(
 }
 
 // The table is made in the lent slices; where the answer is true the first n colours are those of `sides`.
-pub fn color_nodes(
+pub(crate) fn color_nodes(
     n: usize,
     ends: &[u16],
     starts: &mut [u16],
