@@ -68,11 +68,11 @@ rows =
     ∷ record { call = misra-gries-edge-color; n = 4; ends = 0 ∷ 1 ∷ 1 ∷ 2 ∷ 0 ∷ 2 ∷ 2 ∷ 3 ∷ []; lent = 9 ∷ 9 ∷ 9 ∷ 9 ∷ []; report = accepted 3; colors = 2 ∷ 1 ∷ 0 ∷ 2 ∷ [] }
     -- P14: (0,1),(1,0): 7
     ∷ record { call = misra-gries-edge-color; n = 2; ends = 0 ∷ 1 ∷ 1 ∷ 0 ∷ []; lent = 9 ∷ 8 ∷ []; report = refused 7; colors = 9 ∷ 8 ∷ [] }
-    -- Cases that see faults which P13 misses: (0,1),(2,0),(1,3),(0,3): 1,0,0,2
+    -- (0,1),(2,0),(1,3),(0,3): 1,0,0,2; sees w looked for before the exchange, and w always 0
     ∷ record { call = misra-gries-edge-color; n = 4; ends = 0 ∷ 1 ∷ 2 ∷ 0 ∷ 1 ∷ 3 ∷ 0 ∷ 3 ∷ []; lent = 9 ∷ 9 ∷ 9 ∷ 9 ∷ []; report = accepted 3; colors = 1 ∷ 0 ∷ 0 ∷ 2 ∷ [] }
-    -- (1,0),(0,2),(2,1),(1,3),(3,0): 1,0,2,0,2
+    -- (1,0),(0,2),(2,1),(1,3),(3,0): 1,0,2,0,2; sees the path exchanged edge by edge while asking what is free
     ∷ record { call = misra-gries-edge-color; n = 4; ends = 1 ∷ 0 ∷ 0 ∷ 2 ∷ 2 ∷ 1 ∷ 1 ∷ 3 ∷ 3 ∷ 0 ∷ []; lent = 9 ∷ 9 ∷ 9 ∷ 9 ∷ 9 ∷ []; report = accepted 3; colors = 1 ∷ 0 ∷ 2 ∷ 0 ∷ 2 ∷ [] }
-    -- (7,4),(5,6),(7,1),(5,7),(3,6),(6,1): 2,2,1,0,1,0
+    -- (7,4),(5,6),(7,1),(5,7),(3,6),(6,1): 2,2,1,0,1,0; has a path of three edges
     ∷ record { call = misra-gries-edge-color; n = 8; ends = 7 ∷ 4 ∷ 5 ∷ 6 ∷ 7 ∷ 1 ∷ 5 ∷ 7 ∷ 3 ∷ 6 ∷ 6 ∷ 1 ∷ []; lent = 9 ∷ 9 ∷ 9 ∷ 9 ∷ 9 ∷ 9 ∷ []; report = accepted 3; colors = 2 ∷ 2 ∷ 1 ∷ 0 ∷ 1 ∷ 0 ∷ [] }
     -- a loop and a double edge: 6 comes before 7
     ∷ record { call = misra-gries-edge-color; n = 3; ends = 0 ∷ 1 ∷ 1 ∷ 0 ∷ 2 ∷ 2 ∷ []; lent = 9 ∷ 8 ∷ 7 ∷ []; report = refused 6; colors = 9 ∷ 8 ∷ 7 ∷ [] }
