@@ -18,7 +18,7 @@ use Rattle.vizing.specs.Coloring.{Free, color-edge, uncolor-edge}
 use Rattle.vizing.specs.Simple.{Incident}
 use Rattle.edge_table.specs.EdgeTable.{noEdge, edgeOfEntry, entryAt, tableEdge, enteredAtEnds, state, uncolored, colored}
 use Rattle.edge_table.specs.EdgeTableLaws.{reads-none, reads-edge, length-entered-at-ends, entry-at-end, entry-elsewhere}
-use Rattle.edge_table.specs.TableOf.{TableOf, leaves-table}
+use Rattle.edge_table.specs.TableOf.{TableOf}
 
 -- ---- the edge of a colour
 
@@ -120,10 +120,6 @@ module _ (ends : List ℕ) (m : ℕ) (l T : List ℕ) (L : TableOf ends m l T) (
   unfolding uncolored
   uncolor-keeps = uncolored-table
 
-  pub uncolor-done : (l′ T′ : List ℕ) → state l′ T′ ≡ uncolored ends (state l T) k → (l′ ≡ set l k noColor) × TableOf ends m l′ T′
-  unfolding uncolored
-  uncolor-done l′ T′ e = leaves-table ends m (set l k noColor) l′ T′ (uncolored ends (state l T) k) e refl uncolor-keeps
-
   module _ (c : ℕ) (b : c < 576) (bare : colorOf l k ≡ noColor) (free : (v : ℕ) → Incident ends m k v → Free (Incident ends m) (colorOf l) v c) where
     abbrev l″ : List ℕ
     l″ = set l k c
@@ -155,7 +151,3 @@ module _ (ends : List ℕ) (m : ℕ) (l T : List ℕ) (L : TableOf ends m l T) (
       ];
       says = colored-says;
     }
-
-    pub color-done : (l′ T′ : List ℕ) → state l′ T′ ≡ colored ends (state l T) k c → (l′ ≡ set l k c) × TableOf ends m l′ T′
-    unfolding colored
-    color-done l′ T′ e = leaves-table ends m (set l k c) l′ T′ (colored ends (state l T) k c) e refl color-keeps

@@ -31,11 +31,6 @@ module _ (ends : List ℕ) (m : ℕ) (l T : List ℕ) (L : TableOf ends m l T) (
   unfolding exchange
   exchange-done c d ks R e = repaint-done ends m l T ks (exchangedColors l c d ks) L R l′ T′ e
 
-  pub rotate-done : (k : ℕ) (ks : List ℕ) (d : ℕ) → Repaintable ends m l (k ∷ ks) (rotatedColors l ks d)
-      → state l′ T′ ≡ repainted ends (state l T) (k ∷ ks) (rotatedColors l ks d) → (l′ ≡ rotate l k ks d) × TableOf ends m l′ T′
-  unfolding rotate
-  rotate-done k ks d R e = repaint-done ends m l T (k ∷ ks) (rotatedColors l ks d) L R l′ T′ e
-
 -- ---- what each is given
 
 pub exchange-repaintable : (ends : List ℕ) (m : ℕ) (l : List ℕ) (u c d : ℕ) (ks : List ℕ)

@@ -3,22 +3,18 @@ use Prim.Native.Nat.{ℕ, _+_, _*_, _≤_, _<_}
 use mathlib.Core.Path.{_≡_, refl, sym, ap, subst, _∙_}
 use mathlib.Core.Logic.{_≢_}
 use mathlib.Core.List.{List}
-use mathlib.Core.Option.{none, some}
 use native.Mathlib.Omega.{arith}
 use native.Mathlib.Decide.{decLt}
-use lib.ListN.{length, getD, replicate, length-replicate}
+use lib.ListN.{length, replicate, length-replicate}
 use Rattle.lists.specs.Member.{Mem}
-use Rattle.graph.specs.Edges.{firstEnd, secondEnd, edgesAt, degree}
+use Rattle.graph.specs.Edges.{firstEnd, secondEnd, edgesAt}
 use Rattle.graph.specs.EdgeLaws.{edge-at}
 use Rattle.vizing.specs.MisraGries.{noColor, colorOf, edgeOfColor, isNone, isFree, smallestFreeAt}
-use Rattle.vizing.specs.DefinitionLaws.{NoneHas, color-replicate, none-has-none, is-free-true, is-free-false, smallest-free-bound, smallest-free-found}
+use Rattle.vizing.specs.DefinitionLaws.{NoneHas, color-replicate, none-has-none, is-free-true, is-free-false, smallest-free-found}
 use Rattle.vizing.specs.Coloring.{Proper}
 use Rattle.vizing.specs.Simple.{Incident}
-use Rattle.edge_table.specs.EdgeTable.{noEdge, entryOf, optionOf, entryAt, tableEdge, isEmpty, smallestEmpty, State, state}
-use Rattle.edge_table.specs.EdgeTableLaws.{getD-same, entry-edge, entry-place, no-place, reads-none, FirstEmpty, first-empty}
-use Rattle.edge_table.specs.declared.EdgeOfColor.{EdgeOfColor}
-use Rattle.edge_table.specs.declared.EdgeOfColor.the-variants.{Edge, Nothing}
-use Rattle.graph.specs.declared.EdgeIndex.{EdgeIndex}
+use Rattle.edge_table.specs.EdgeTable.{noEdge, entryAt, tableEdge, isEmpty, smallestEmpty, State, state}
+use Rattle.edge_table.specs.EdgeTableLaws.{getD-same, entry-place, no-place, reads-none, FirstEmpty, first-empty}
 
 -- Each end has a row in the table, and no edge has the number that marks an empty place.
 pub record FitsTable (ends : List ℕ) (m : ℕ) : Type 0 where
@@ -66,18 +62,6 @@ start-table ends m M N fits h e = record {
 -- ---- the answers
 
 module _ (ends : List ℕ) (m : ℕ) (l T : List ℕ) (L : TableOf ends m l T) where
-  -- What a place holds.
-  pub table-row : (v c : ℕ) → c < 576 → getD T (v * 576 + c) noEdge ≡ entryOf (edgeOfColor l c (edgesAt ends m v))
-  unfolding tableEdge
-  table-row v c h = sym (entry-place T v c h) ∙ sym (entry-edge (entryAt T v c)) ∙ ap entryOf (L .says v c (λ z. omega arith))
-
-  -- `edge_of_color`, answering r.
-  pub says-edge : (v c : ℕ) (r : EdgeOfColor) (k : EdgeIndex) → c ≢ noColor → optionOf r ≡ tableEdge T v c → r ≡ Edge k → edgeOfColor l c (edgesAt ends m v) ≡ some (k .0)
-  says-edge v c r k n e p = sym (ap optionOf (sym p) ∙ e ∙ L .says v c n)
-
-  pub says-nothing : (v c : ℕ) (r : EdgeOfColor) → c ≢ noColor → optionOf r ≡ tableEdge T v c → r ≡ Nothing → edgeOfColor l c (edgesAt ends m v) ≡ none
-  says-nothing v c r n e p = sym (ap optionOf (sym p) ∙ e ∙ L .says v c n)
-
   -- `is_free`
   pub says-free : (v c : ℕ) → c ≢ noColor → isEmpty T v c ≡ isFree l (edgesAt ends m v) c
   unfolding isEmpty isFree
@@ -104,8 +88,3 @@ module _ (ends : List ℕ) (m : ℕ) (l T : List ℕ) (L : TableOf ends m l T) w
 
       used : (b : ℕ) → b < c → (k : ℕ) × Mem k ks × (colorOf l k ≡ b)
       used b less = is-free-false l ks b (sym (says-free v b (λ z. omega (arith, F .bound))) ∙ F .smaller b less)
-
-  -- It has a place where fewer edges stand at the node than there are colours.
-  pub smallest-below : (v : ℕ) → degree ends m v < 576 → smallestEmpty T v < 576
-  unfolding degree
-  smallest-below v few = rw (says-smallest v) (omega (arith, smallest-free-bound l (edgesAt ends m v)))

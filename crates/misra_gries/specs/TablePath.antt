@@ -6,9 +6,7 @@ use mathlib.Core.List.{List, [], _∷_}
 use mathlib.Core.Option.{none, some}
 use native.Mathlib.Omega.{arith}
 use lib.ListN.{length, set, take}
-use lib.Dec.{eqb}
-use Rattle.lists.specs.Tests.{by-test}
-use Rattle.graph.specs.Edges.{firstEnd, secondEnd, farEnd, edgesAt}
+use Rattle.graph.specs.Edges.{farEnd, edgesAt}
 use Rattle.graph.specs.EdgeLaws.{edge-at}
 use Rattle.vizing.specs.MisraGries.{edgeOfColor, path}
 use Rattle.vizing.specs.DefinitionLaws.{some-or-none, edge-of-color-some}
@@ -49,11 +47,6 @@ module _ (ends : List ℕ) (m : ℕ) (l T : List ℕ) (Node : ℕ → Type 0) (f
         let b = far k v (edge-at ends m v k (edge-of-color-some l p (edgesAt ends m v) k e .0) .0) in
         rw (path-goes ends T n v p q k (says-p v a ∙ e), e, path, table-path n (farEnd ends k v) q p b says-q says-p)
   ]
-
--- Where all ends are below N, `Node v` may be v < N.
-pub far-below : (ends : List ℕ) (m N : ℕ) → ((k : ℕ) → k < m → (firstEnd ends k < N) × (secondEnd ends k < N)) → (k v : ℕ) → k < m → farEnd ends k v < N
-unfolding farEnd
-far-below ends m N below k v h = by-test (eqb (firstEnd ends k) v) (λ t. rw t (below k h .1)) (λ t. rw t (below k h .0))
 
 -- ---- as the code follows it
 

@@ -129,9 +129,6 @@ is-free-false l ks c e = elim (some-or-none (edgeOfColor l c ks)) [
 pub none-has-free : (l ks : List ℕ) (c : ℕ) → NoneHas l ks c → isFree l ks c ≡ true
 none-has-free l ks c n = by-test (isFree l ks c) (λ t. t) (λ t. let r = is-free-false l ks c t in absurd (n (r .0) (r .1) (r .2)))
 
-pub has-not-free : (l ks : List ℕ) (c k : ℕ) → Mem k ks → colorOf l k ≡ c → isFree l ks c ≡ false
-has-not-free l ks c k p e = by-test (isFree l ks c) (λ t. absurd (is-free-true l ks c t k p e)) (λ t. t)
-
 -- ---- the coloured ones of a node's edges
 
 pub colored-edge : (l ks : List ℕ) (k : ℕ) → Mem k (coloredEdges l ks) → Mem k ks × (colorOf l k ≢ noColor)

@@ -1,10 +1,10 @@
 -- In a simple graph a node has fewer edges than there are nodes.
-use Prim.Native.Nat.{ℕ, _≤_, _<_}
+use Prim.Native.Nat.{ℕ, _<_}
 use mathlib.Core.Path.{_≡_, refl, sym}
 use mathlib.Core.Logic.{inl, inr}
 use mathlib.Core.List.{List, [], _∷_, map}
 use native.Mathlib.Omega.{arith}
-use lib.ListN.{length, length-map}
+use lib.ListN.{length-map}
 use Rattle.lists.specs.Member.{Mem, Nodup, nodup-bound}
 use Rattle.graph.specs.Edges.{firstEnd, secondEnd, farEnd, edgesAt, degree}
 use Rattle.graph.specs.EdgeLaws.{far-at, edge-at, edges-at-nodup}
@@ -37,14 +37,3 @@ module _ (ends : List ℕ) (m n : ℕ) (S : Simple ends m) (inside : (k : ℕ) �
         (λ p. let r = far-of v ks p in simple-graph ends m S .no-loop (r .0) v (edge-at ends m v (r .0) (r .1)) (sym (r .2)),
           fars-nodup ks (edges-at-nodup ends m v) (λ k p. edge-at ends m v k p))
         (λ w p. elim p [ inl e ↦ rw e h | inr q ↦ let r = far-of w ks q in rw (r .2) (far-inside (r .0) (edge-at ends m v (r .0) (r .1))) ]))
-
-  -- A node that is not one of the n has none.
-  pub degree-outside : n ≤ v → degree ends m v ≡ 0
-  unfolding degree
-  degree-outside h = go (edgesAt ends m v) (λ k p. edge-at ends m v k p)
-    where
-      go : (ks : List ℕ) → ((k : ℕ) → Mem k ks → Incident ends m k v) → length ks ≡ 0
-      go [] at = refl
-      go (k ∷ ks) at =
-          let i = inside k (at k (inl refl) .0) in
-          elim (at k (inl refl) .1) [ inl p ↦ absurd (omega arith) | inr p ↦ absurd (omega arith) ]
