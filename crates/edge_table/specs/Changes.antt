@@ -12,8 +12,10 @@ use Rattle.lists.specs.Tests.{by-test, dec-eq}
 use Rattle.lists.specs.Member.{Mem}
 use Rattle.graph.specs.Edges.{firstEnd, secondEnd, edgesAt}
 use Rattle.graph.specs.EdgeLaws.{At, edge-at, at-edge}
-use Rattle.vizing.specs.MisraGries.{noColor, colorOf, edgeOfColor}
-use Rattle.vizing.specs.DefinitionLaws.{some-or-none, color-set-same, color-set-other, edge-of-color-some, edge-of-color-none, none-has-none}
+use Rattle.graph.specs.Colored.{noColor, colorOf}
+use Rattle.vizing.specs.MisraGries.{edgeOfColor}
+use Rattle.graph.specs.ColoredLaws.{color-set-same, color-set-other}
+use Rattle.vizing.specs.DefinitionLaws.{some-or-none, edge-of-color-some, edge-of-color-none, none-has-none}
 use Rattle.vizing.specs.Coloring.{Free, color-edge, uncolor-edge}
 use Rattle.vizing.specs.Simple.{Incident}
 use Rattle.edge_table.specs.EdgeTable.{noEdge, edgeOfEntry, entryAt, tableEdge, enteredAtEnds, state, uncolored, colored}

@@ -17,7 +17,8 @@ use Rattle.lists.specs.Tests.{dec-eq}
 use Rattle.lists.specs.Member.{Mem}
 use Rattle.graph.specs.Edges.{firstEnd, secondEnd}
 use Rattle.graph.specs.EdgeLaws.{At}
-use Rattle.vizing.specs.MisraGries.{noColor, colorOf, isNone}
+use Rattle.graph.specs.Colored.{noColor, colorOf}
+use Rattle.vizing.specs.MisraGries.{isNone}
 use Rattle.edge_table.specs.EdgeTable.{noEdge, entryOf, edgeOfEntry, entryAt, tableEdge, isEmpty, emptyFrom, smallestEmpty, entered, enteredAtEnds}
 use Rattle.edge_table.specs.EdgeTable.{State, state, uncolored, colored, allUncolored, allColored, repainted}
 

@@ -7,8 +7,10 @@ use native.Mathlib.Omega.{arith}
 use lib.ListN.{length, set, length-set}
 use lib.Seq.{set-set, set-comm}
 use Rattle.lists.specs.Member.{Mem, Nodup, dec-mem}
-use Rattle.vizing.specs.MisraGries.{noColor, colorOf, store}
-use Rattle.vizing.specs.DefinitionLaws.{color-set-same, color-set-other, color-store-other}
+use Rattle.graph.specs.Colored.{noColor, colorOf}
+use Rattle.vizing.specs.MisraGries.{store}
+use Rattle.graph.specs.ColoredLaws.{color-set-same, color-set-other}
+use Rattle.vizing.specs.DefinitionLaws.{color-store-other}
 use Rattle.vizing.specs.Coloring.{Free, Proper}
 use Rattle.vizing.specs.Simple.{Incident}
 use Rattle.edge_table.specs.EdgeTable.{State, state, uncolored, colored, allUncolored, allColored, repainted}

@@ -7,7 +7,8 @@ use native.Mathlib.Omega.{arith}
 use lib.ListN.{length-map, length-append}
 use Rattle.lists.specs.Member.{Mem, Nodup, mem-append}
 use Rattle.graph.specs.Edges.{farEnd, firstEnd}
-use Rattle.vizing.specs.MisraGries.{noColor, colorOf, swap, exchange, rotate, find, step}
+use Rattle.graph.specs.Colored.{noColor, colorOf}
+use Rattle.vizing.specs.MisraGries.{swap, exchange, rotate, find, step}
 use Rattle.vizing.specs.Coloring.{Proper}
 use Rattle.vizing.specs.Simple.{Incident}
 use Rattle.vizing.specs.AlternatingPath.{swap-left, swap-right, Exchanged, path-edge, exchange-proper, exchange-colored}

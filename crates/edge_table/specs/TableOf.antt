@@ -9,8 +9,10 @@ use lib.ListN.{length, replicate, length-replicate}
 use Rattle.lists.specs.Member.{Mem}
 use Rattle.graph.specs.Edges.{firstEnd, secondEnd, edgesAt}
 use Rattle.graph.specs.EdgeLaws.{edge-at}
-use Rattle.vizing.specs.MisraGries.{noColor, colorOf, edgeOfColor, isNone, isFree, smallestFreeAt}
-use Rattle.vizing.specs.DefinitionLaws.{NoneHas, color-replicate, none-has-none, is-free-true, is-free-false, smallest-free-found}
+use Rattle.graph.specs.Colored.{noColor, colorOf, smallestFreeAt}
+use Rattle.vizing.specs.MisraGries.{edgeOfColor, isNone, isFree}
+use Rattle.graph.specs.ColoredLaws.{NoneHas, color-replicate, smallest-free-found}
+use Rattle.vizing.specs.DefinitionLaws.{none-has-none, is-free-true, is-free-false}
 use Rattle.vizing.specs.Coloring.{Proper}
 use Rattle.vizing.specs.Simple.{Incident}
 use Rattle.edge_table.specs.EdgeTable.{noEdge, entryAt, tableEdge, isEmpty, smallestEmpty, State, state}

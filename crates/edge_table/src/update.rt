@@ -4,7 +4,7 @@ use graph::end_at;
 use graph::{Color, EdgeIndex, NodeIndex};
 ghost use mathlib.Core.Path.{_≡_};
 ghost use lib.ListN.{set};
-ghost use Rattle.vizing.specs.MisraGries.{colorOf};
+ghost use Rattle.graph.specs.Colored.{colorOf};
 ghost use Rattle.edge_table.specs.EdgeTable.{entered, enteredAtEnds, state, uncolored, colored, allUncolored, allColored, repainted};
 
 // A colour without a place must not be entered in the next row.

@@ -55,6 +55,13 @@ passed-first [] ds e = refl
 passed-first ((true gives j) ∷ cs) ds e = let z : _≡_ {A = ℕ} 0 1 = cc in absurd (omega arith)
 passed-first ((false gives j) ∷ cs) ds e = passed-first cs ds e
 
+-- Checks in a row that all pass.
+pub passed-both : (cs ds : List Check) → firstRefusal (cs ++ ds) ≡ none → (firstRefusal cs ≡ none) × (firstRefusal ds ≡ none)
+unfolding firstRefusal
+passed-both [] ds e = (refl, e)
+passed-both ((true gives j) ∷ cs) ds e = let z : _≡_ {A = ℕ} 0 1 = cc in absurd (omega arith)
+passed-both ((false gives j) ∷ cs) ds e = passed-both cs ds e
+
 pub first-refuses : (b : Bool) (k : ℕ) (cs : List Check) → b ≡ true → firstRefusal ((b gives k) ∷ cs) ≡ some k
 unfolding firstRefusal
 first-refuses b k cs e = simp e
@@ -115,7 +122,7 @@ unfolding firstEnd secondEnd
 passed-inside n ends p k h = (p .inside (2 * k) (omega (arith, p .even)), p .inside (2 * k + 1) (omega (arith, p .even)))
 
 -- The answer of `check_graph`, taken apart by a caller.
-abbrev Sizes : Type 0
+abbrev pub Sizes : Type 0
 Sizes = ℕ × ℕ
 
 answered-cases : (cs : List Check) (values : Sizes) → ((k : ℕ) × (firstRefusal cs ≡ some k) × (answered cs values ≡ refused k)) ⊎ ((firstRefusal cs ≡ none) × (answered cs values ≡ accepted values))
@@ -125,22 +132,28 @@ answered-cases cs values = go (firstRefusal cs) refl
     go none e = inr (e, sym (answered-accepted cs values e))
     go (some k) e = inl (k, e, sym (answered-refused cs k values e))
 
-pub graph-refused : (n : ℕ) (ends : List ℕ) (c : Checked) (r : Refusal) → reportOfChecked c ≡ checkGraph n ends → c ≡ C.Refused r → firstRefusal (graphChecks n ends) ≡ some (number r)
-unfolding checkGraph
-graph-refused n ends c r e p =
+-- A refusal is the first check's that refuses.
+pub checked-refused : (cs : List Check) (values : Sizes) (c : Checked) (r : Refusal) → reportOfChecked c ≡ answered cs values → c ≡ C.Refused r → firstRefusal cs ≡ some (number r)
+checked-refused cs values c r e p =
     let h : reportOfChecked c ≡ refused (number r) = ap reportOfChecked p in
-    elim (answered-cases (graphChecks n ends) (n, length ends / 2)) [
+    elim (answered-cases cs values) [
       | inl (k, q, a) ↦ let i : number r ≡ k = cc in q ∙ ap some (sym i)
       | inr (q, a) ↦ let z : _≡_ {A = ℕ} 0 1 = cc in absurd (omega arith)
     ]
 
-pub graph-accepted : (n : ℕ) (ends : List ℕ) (c : Checked) (g : Graph) → reportOfChecked c ≡ checkGraph n ends → c ≡ C.Accepted g → (firstRefusal (graphChecks n ends) ≡ none) × (g .nodes ≡ n) × (g .edges ≡ edgeCount ends)
-unfolding checkGraph
-graph-accepted n ends c g e p =
-    let s : Sizes = (n, length ends / 2) in
+pub checked-accepted : (cs : List Check) (values : Sizes) (c : Checked) (g : Graph) → reportOfChecked c ≡ answered cs values → c ≡ C.Accepted g → (firstRefusal cs ≡ none) × (g .nodes ≡ values .0) × (g .edges ≡ values .1)
+checked-accepted cs values c g e p =
     let t : Sizes = (g .nodes, g .edges) in
     let h : reportOfChecked c ≡ accepted t = ap reportOfChecked p in
-    elim (answered-cases (graphChecks n ends) s) [
+    elim (answered-cases cs values) [
       | inl (k, q, a) ↦ let z : _≡_ {A = ℕ} 0 1 = cc in absurd (omega arith)
-      | inr (q, a) ↦ let i : t ≡ s = cc in (q, ap (λ (x : Sizes). x .0) i, ap (λ (x : Sizes). x .1) i)
+      | inr (q, a) ↦ let i : t ≡ values = cc in (q, ap (λ (x : Sizes). x .0) i, ap (λ (x : Sizes). x .1) i)
     ]
+
+pub graph-refused : (n : ℕ) (ends : List ℕ) (c : Checked) (r : Refusal) → reportOfChecked c ≡ checkGraph n ends → c ≡ C.Refused r → firstRefusal (graphChecks n ends) ≡ some (number r)
+unfolding checkGraph
+graph-refused n ends = checked-refused (graphChecks n ends) (n, length ends / 2)
+
+pub graph-accepted : (n : ℕ) (ends : List ℕ) (c : Checked) (g : Graph) → reportOfChecked c ≡ checkGraph n ends → c ≡ C.Accepted g → (firstRefusal (graphChecks n ends) ≡ none) × (g .nodes ≡ n) × (g .edges ≡ edgeCount ends)
+unfolding checkGraph
+graph-accepted n ends = checked-accepted (graphChecks n ends) (n, length ends / 2)

@@ -1,6 +1,6 @@
 -- Ends, incidence order, degree, far end.
 use Prim.Native.Nat.{ℕ, zero, suc, _+_, _*_, _/_}
-use mathlib.Core.List.{List, [], _∷_, _++_}
+use mathlib.Core.List.{List, [], _∷_, _++_, map}
 use mathlib.Core.Bool.{Bool, true, false, not, _&&_, cond}
 use lib.ListN.{length, getD}
 use lib.Dec.{eqb}
@@ -50,3 +50,7 @@ edgesAt ends k v = firstEdges ends k v ++ secondEdges ends k v
 -- "deg(v) is their number."
 unfoldable pub degree : List ℕ → ℕ → ℕ → ℕ
 degree ends k v = length (edgesAt ends k v)
+
+-- The neighbours of node v in incidence order, along the first k edges: the far ends of its edges. A double edge gives one twice, a loop v once.
+unfoldable pub neighbors : List ℕ → ℕ → ℕ → List ℕ
+neighbors ends k v = map (λ (j : ℕ). farEnd ends j v) (edgesAt ends k v)

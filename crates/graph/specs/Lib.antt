@@ -14,3 +14,6 @@ pub mod Walk
 pub mod WalkLaws
 pub mod StretchLaws
 pub mod Color
+pub mod Colored
+pub mod ColoredLaws
+pub mod NeighborLaws

@@ -4,3 +4,5 @@ pub mod Member
 pub mod Search
 pub mod Parts
 pub mod Tabulate
+pub mod Different
+pub mod Equal

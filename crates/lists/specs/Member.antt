@@ -2,7 +2,7 @@
 use Prim.Native.Nat.{ℕ, zero, suc, _+_, _≤_, _<_}
 use mathlib.Core.Path.{_≡_, refl, sym, ap, subst}
 use mathlib.Core.Logic.{_⊎_, inl, inr, _≢_}
-use mathlib.Core.List.{List, [], _∷_, _++_}
+use mathlib.Core.List.{List, [], _∷_, _++_, map}
 use mathlib.Core.Bool.{Bool, true, false, _||_, false≢true}
 use native.Mathlib.Omega.{arith}
 use native.Mathlib.Nat.{not-suc-le-zero}
@@ -130,3 +130,13 @@ nodup-bound n xs u b = rw length-below at (pigeonhole xs (below n) u (λ k p. me
 -- A list that has all numbers below n has n places or more.
 pub cover-bound : (n : ℕ) (xs : List ℕ) → ((k : ℕ) → k < n → Mem k xs) → n ≤ length xs
 cover-bound n xs c = rw length-below at (pigeonhole (below n) xs (nodup-below n) (λ k p. c k (below-lt n k p)))
+
+-- ---- members of a mapped list
+
+pub mem-map : (f : ℕ → ℕ) (k : ℕ) (ks : List ℕ) → Mem k ks → Mem (f k) (map f ks)
+mem-map f k (j ∷ ks) (inl p) = inl (ap f p)
+mem-map f k (j ∷ ks) (inr p) = inr (mem-map f k ks p)
+
+pub map-mem : (f : ℕ → ℕ) (c : ℕ) (ks : List ℕ) → Mem c (map f ks) → (k : ℕ) × Mem k ks × (f k ≡ c)
+map-mem f c (j ∷ ks) (inl p) = (j, inl refl, sym p)
+map-mem f c (j ∷ ks) (inr p) = let r = map-mem f c ks p in (r .0, inr (r .1), r .2)

@@ -11,8 +11,9 @@ use lib.Dec.{eqb, ltb}
 use borrow.Author.Tests.{lt-ltb, le-ltb, ltb-true, ltb-false, eq-eqb, ne-eqb}
 use Rattle.lists.specs.Tests.{by-test}
 use Rattle.graph.specs.Color.{daysOf}
-use Rattle.vizing.specs.MisraGries.{noColor, colorOf, greatestColor}
-use Rattle.vizing.specs.DefinitionLaws.{color-take}
+use Rattle.graph.specs.Colored.{noColor, colorOf}
+use Rattle.vizing.specs.MisraGries.{greatestColor}
+use Rattle.graph.specs.ColoredLaws.{color-take}
 
 -- An uncoloured place does not count, a coloured one does.
 greatest-uncolored : (c : ℕ) (cs : List ℕ) → c ≡ noColor → greatestColor (c ∷ cs) ≡ greatestColor cs

@@ -9,7 +9,8 @@ use lib.ListN.{length, getD, take}
 use lib.Dec.{eqb}
 use Rattle.lists.specs.Member.{Mem}
 use Rattle.graph.specs.Edges.{firstEnd, secondEnd, edgesAt}
-use Rattle.vizing.specs.MisraGries.{noColor, colorOf, isColored, isFree, growFan}
+use Rattle.graph.specs.Colored.{noColor, colorOf, isColored}
+use Rattle.vizing.specs.MisraGries.{isFree, growFan}
 use Rattle.edge_table.specs.EdgeTable.{isEmpty}
 use Rattle.misra_gries.specs.declared.fan.Joining.{Joining}
 use Rattle.misra_gries.specs.declared.fan.Joining.the-variants.{Edge, Nothing}

@@ -15,8 +15,10 @@ use Rattle.lists.specs.Tests.{by-test, dec-eq}
 use Rattle.lists.specs.Member.{Mem, elem, mem-append}
 use Rattle.graph.specs.Edges.{firstEnd, secondEnd, farEnd, edgesAt, degree}
 use Rattle.graph.specs.EdgeLaws.{far-first, edge-at, at-edge}
-use Rattle.vizing.specs.MisraGries.{noColor, colorOf, isColored, isFree, joins, firstJoining, growFan}
-use Rattle.vizing.specs.DefinitionLaws.{colored-true, uncolored-false, is-colored-true, first-joining-some}
+use Rattle.graph.specs.Colored.{noColor, colorOf, isColored}
+use Rattle.vizing.specs.MisraGries.{isFree, joins, firstJoining, growFan}
+use Rattle.graph.specs.ColoredLaws.{colored-true, uncolored-false, is-colored-true}
+use Rattle.vizing.specs.DefinitionLaws.{first-joining-some}
 use Rattle.vizing.specs.Simple.{Incident}
 use Rattle.vizing.specs.Fan.{fan-at}
 use Rattle.vizing.specs.FanGrowth.{Grown, grown-fan, fan-nodup, fan-grown, fan-length}

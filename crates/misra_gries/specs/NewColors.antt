@@ -6,7 +6,8 @@ use native.Mathlib.Omega.{arith}
 use native.Mathlib.Numerals.{add-one}
 use lib.ListN.{length, getD, set, take, drop, length-map, length-append, length-drop, drop-of-length-le}
 use lib.Seq.{drop-cons}
-use Rattle.vizing.specs.MisraGries.{colorOf, store, swap, exchange, rotate}
+use Rattle.graph.specs.Colored.{colorOf}
+use Rattle.vizing.specs.MisraGries.{store, swap, exchange, rotate}
 use Rattle.vizing.specs.AlternatingPath.{swap-left, swap-right, swap-other}
 use Rattle.edge_table.specs.StepRepaint.{exchangedColors, rotatedColors}
 use Rattle.misra_gries.specs.Front.{Front, front-start, front-next, front-all}

@@ -12,7 +12,8 @@ use Rattle.lists.specs.Tests.{by-test}
 use Rattle.graph.specs.Edges.{edgeCount}
 use Rattle.graph.specs.Color.{daysOf}
 use Rattle.graph.specs.StretchLaws.{Table}
-use Rattle.vizing.specs.MisraGries.{noColor, colorOf, greatestColor, step, stepHeld, heldAfter, held, find}
+use Rattle.graph.specs.Colored.{noColor, colorOf}
+use Rattle.vizing.specs.MisraGries.{greatestColor, step, stepHeld, heldAfter, held, find}
 use Rattle.vizing.specs.Demand3.{Admitted, maxDegree, degree-max, max-degree-bound}
 use Rattle.vizing.specs.Step.{Invariant}
 use Rattle.vizing.specs.Run.{run-keeps}
@@ -23,7 +24,7 @@ use Rattle.misra_gries.specs.Range.{palette}
 use Rattle.misra_gries.specs.Step.{InRange, Ready, Stepped, topColor}
 use Rattle.misra_gries.specs.Tally.{notedOf, Tallied}
 use Rattle.misra_gries.specs.Days.{greatest-blank, days-read}
-use Rattle.vizing.specs.DefinitionLaws.{color-replicate}
+use Rattle.graph.specs.ColoredLaws.{color-replicate}
 use Rattle.edge_table.specs.EdgeTable.{noEdge}
 use Rattle.edge_table.specs.EdgeTableLaws.{getD-same}
 

@@ -8,7 +8,8 @@ use lib.ListN.{length, getD}
 use lib.Dec.{eqb}
 use Rattle.graph.specs.Edges.{edgeCount, firstEnd, secondEnd}
 use Rattle.graph.specs.StretchLaws.{Table}
-use Rattle.vizing.specs.MisraGries.{noColor, path, Found, find, step}
+use Rattle.graph.specs.Colored.{noColor}
+use Rattle.vizing.specs.MisraGries.{path, Found, find, step}
 use Rattle.vizing.specs.Demand3.{Admitted, maxDegree}
 use Rattle.vizing.specs.Step.{Invariant}
 use Rattle.edge_table.specs.TableOf.{TableOf}

@@ -13,7 +13,8 @@ use Rattle.graph.specs.Stretch.{stretch}
 use Rattle.vizing.specs.SimpleDegree.{degree-below}
 use Rattle.misra_gries.specs.MarkedFan.{FanReady, fanOf}
 use Rattle.graph.specs.EdgeLaws.{far-first}
-use Rattle.vizing.specs.MisraGries.{noColor, colorOf, smallestFreeAt, lastFarEnd, swap, path, exchange, rotate, store, Found, find, step}
+use Rattle.graph.specs.Colored.{noColor, colorOf, smallestFreeAt}
+use Rattle.vizing.specs.MisraGries.{lastFarEnd, swap, path, exchange, rotate, store, Found, find, step}
 use Rattle.vizing.specs.Step.{Invariant, FoundLaws, found-laws, step-keeps}
 use Rattle.edge_table.specs.EdgeTable.{state, repainted, smallestEmpty}
 use Rattle.edge_table.specs.TableOf.{TableOf, says-smallest, says-free}

@@ -6,7 +6,8 @@ use mathlib.Core.List.{List, [], _∷_}
 use borrow.Author.Tests.{eq-eqb, ne-eqb}
 use Rattle.lists.specs.Tests.{dec-eq}
 use Rattle.lists.specs.Member.{Mem, dec-mem}
-use Rattle.vizing.specs.MisraGries.{noColor, swap}
+use Rattle.graph.specs.Colored.{noColor}
+use Rattle.vizing.specs.MisraGries.{swap}
 use Rattle.vizing.specs.Coloring.{Graph, Free, Proper}
 
 -- ---- two colours exchanged

@@ -1,22 +1,19 @@
 -- Laws of the definitions: what each search and test over a node's edges tells, cited instead of the definitions' text.
-use Prim.Native.Nat.{ℕ, zero, suc, _≤_, _<_}
+use Prim.Native.Nat.{ℕ, _<_}
 use mathlib.Core.Path.{_≡_, refl, sym, ap, subst, _∙_}
 use mathlib.Core.Logic.{_⊎_, inl, inr, _≢_}
-use mathlib.Core.List.{List, [], _∷_, _++_, map}
+use mathlib.Core.List.{List, [], _∷_}
 use mathlib.Core.Option.{Option, none, some}
-use mathlib.Core.Bool.{Bool, true, false, not, _&&_, true≢false}
+use mathlib.Core.Bool.{true, false, not, _&&_, true≢false}
 use native.Mathlib.Omega.{arith}
-use native.Mathlib.Nat.{not-suc-le-zero}
-use native.Mathlib.Decide.{decLt}
-use lib.ListN.{length, getD, take, set, replicate, length-set, length-map, getD-replicate, length-replicate, List·getD-eq-default}
-use lib.Seq.{getD-take, getD-set-same, getD-set-other}
+use lib.ListN.{length, set, length-set}
 use lib.Dec.{eqb}
-use borrow.Author.Tests.{eqb-true, eqb-false, eq-eqb, ne-eqb, not-true, not-false}
+use borrow.Author.Tests.{eqb-true, eqb-false, not-true}
 use Rattle.lists.specs.Tests.{by-test, and-true, true-and}
-use Rattle.lists.specs.Member.{Mem, elem, elem-false, not-mem-elem, cover-bound}
-use Rattle.graph.specs.Edges.{keep}
-use Rattle.graph.specs.Color.{smallestFree, SmallestFree, smallest-free, smallest-unique}
-use Rattle.vizing.specs.MisraGries.{noColor, colorOf, isColored, edgeOfColor, isFree, coloredEdges, smallestFreeAt, store, joins, firstJoining}
+use Rattle.lists.specs.Member.{Mem, elem, elem-false, not-mem-elem}
+use Rattle.graph.specs.ColoredLaws.{NoneHas, color-set-other, is-colored-true, colored-true, smallest-none-has}
+use Rattle.graph.specs.Colored.{noColor, colorOf, isColored, smallestFreeAt}
+use Rattle.vizing.specs.MisraGries.{edgeOfColor, isFree, store, joins, firstJoining}
 
 -- ---- options
 
@@ -30,61 +27,7 @@ pub some-or-none : (o : Option ℕ) → (o ≡ none) ⊎ ((k : ℕ) × (o ≡ so
 some-or-none none = inl refl
 some-or-none (some k) = inr (k, refl)
 
--- ---- colours of places
-
-pub color-outside : (l : List ℕ) (k : ℕ) → length l ≤ k → colorOf l k ≡ noColor
-unfolding colorOf
-color-outside l k h = List·getD-eq-default l noColor h
-
-pub colored-inside : (l : List ℕ) (k : ℕ) → colorOf l k ≢ noColor → k < length l
-colored-inside l k n = elim (decLt k (length l)) [ yes h ↦ h | no h ↦ absurd (n (color-outside l k (omega arith))) ]
-
--- A place inside the list, as it is read with any other default.
-pub color-read : (l : List ℕ) (k d : ℕ) → k < length l → getD l k d ≡ colorOf l k
-unfolding colorOf
-color-read [] k d h = absurd (not-suc-le-zero h)
-color-read (c ∷ l) zero d h = refl
-color-read (c ∷ l) (suc k) d h = color-read l k d (omega arith)
-
-pub color-take : (l : List ℕ) (n k : ℕ) → k < n → colorOf (take n l) k ≡ colorOf l k
-unfolding colorOf
-color-take l n k h = getD-take n l k noColor h
-
-pub color-set-same : (l : List ℕ) (k c : ℕ) → k < length l → colorOf (set l k c) k ≡ c
-unfolding colorOf
-color-set-same l k c h = getD-set-same l k c noColor h
-
-pub color-set-other : (l : List ℕ) (k c j : ℕ) → j ≢ k → colorOf (set l k c) j ≡ colorOf l j
-unfolding colorOf
-color-set-other l k c j n = getD-set-other l k j c noColor n
-
-pub color-replicate : (n k : ℕ) → colorOf (replicate n noColor) k ≡ noColor
-unfolding colorOf
-color-replicate n k = elim (decLt k n) [ yes h ↦ getD-replicate n k noColor noColor h | no h ↦ color-outside (replicate n noColor) k (rw (length-replicate n noColor) (omega arith)) ]
-
--- ---- coloured or not
-
-pub is-colored-true : (l : List ℕ) (k : ℕ) → isColored l k ≡ true → colorOf l k ≢ noColor
-unfolding isColored
-is-colored-true l k e = eqb-false (colorOf l k) noColor (not-true (eqb (colorOf l k) noColor) e)
-
-pub is-colored-false : (l : List ℕ) (k : ℕ) → isColored l k ≡ false → colorOf l k ≡ noColor
-unfolding isColored
-is-colored-false l k e = eqb-true (colorOf l k) noColor (not-false (eqb (colorOf l k) noColor) e)
-
-pub colored-true : (l : List ℕ) (k : ℕ) → colorOf l k ≢ noColor → isColored l k ≡ true
-unfolding isColored
-colored-true l k n = ap not (ne-eqb (colorOf l k) noColor n)
-
-pub uncolored-false : (l : List ℕ) (k : ℕ) → colorOf l k ≡ noColor → isColored l k ≡ false
-unfolding isColored
-uncolored-false l k e = ap not (eq-eqb (colorOf l k) noColor e)
-
 -- ---- the edge of a colour
-
--- None of these edges has colour c.
-abbrev pub NoneHas : List ℕ → List ℕ → ℕ → Type 0
-NoneHas l ks c = (k : ℕ) → Mem k ks → colorOf l k ≢ c
 
 pub edge-of-color-some : (l : List ℕ) (c : ℕ) (ks : List ℕ) (k : ℕ) → edgeOfColor l c ks ≡ some k → Mem k ks × (colorOf l k ≡ c)
 unfolding edgeOfColor
@@ -129,89 +72,9 @@ is-free-false l ks c e = elim (some-or-none (edgeOfColor l c ks)) [
 pub none-has-free : (l ks : List ℕ) (c : ℕ) → NoneHas l ks c → isFree l ks c ≡ true
 none-has-free l ks c n = by-test (isFree l ks c) (λ t. t) (λ t. let r = is-free-false l ks c t in absurd (n (r .0) (r .1) (r .2)))
 
--- ---- the coloured ones of a node's edges
-
-pub colored-edge : (l ks : List ℕ) (k : ℕ) → Mem k (coloredEdges l ks) → Mem k ks × (colorOf l k ≢ noColor)
-unfolding coloredEdges
-colored-edge l (j ∷ ks) k p =
-    by-test (isColored l j)
-    (λ t. elim (rw (t, coloredEdges) at p) [
-      | inl q ↦ (inl q, rw q (is-colored-true l j t))
-      | inr q ↦ let r = colored-edge l ks k q in (inr (r .0), r .1)
-    ])
-    (λ t. let r = colored-edge l ks k (rw (t, coloredEdges) at p) in (inr (r .0), r .1))
-
-pub edge-colored : (l ks : List ℕ) (k : ℕ) → Mem k ks → colorOf l k ≢ noColor → Mem k (coloredEdges l ks)
-unfolding coloredEdges
-edge-colored l (j ∷ ks) k (inl p) n = rw (colored-true l j (rw p at n), coloredEdges) (inl p)
-edge-colored l (j ∷ ks) k (inr p) n = by-test (isColored l j) (λ t. rw (t, coloredEdges) (inr (edge-colored l ks k p n))) (λ t. rw (t, coloredEdges) (edge-colored l ks k p n))
-
-pub colored-edges-length : (l ks : List ℕ) → length (coloredEdges l ks) ≤ length ks
-unfolding coloredEdges
-colored-edges-length l [] = omega arith
-colored-edges-length l (j ∷ ks) = by-test (isColored l j) (λ t. rw (t, coloredEdges) (omega (arith, colored-edges-length l ks))) (λ t. rw (t, coloredEdges) (omega (arith, colored-edges-length l ks)))
-
-pub colored-edges-append : (l js ks : List ℕ) → coloredEdges l (js ++ ks) ≡ coloredEdges l js ++ coloredEdges l ks
-unfolding coloredEdges
-colored-edges-append l [] ks = refl
-colored-edges-append l (j ∷ js) ks = rw (colored-edges-append l js ks) (by-test (isColored l j) (λ t. rw t) (λ t. rw t))
-
--- An edge without a colour is left out.
-pub colored-edges-keep : (l : List ℕ) (b : Bool) (k : ℕ) (ks : List ℕ) → colorOf l k ≡ noColor → coloredEdges l (keep b k ks) ≡ coloredEdges l ks
-unfolding coloredEdges
-colored-edges-keep l true k ks e = rw (uncolored-false l k e)
-colored-edges-keep l false k ks e = refl
-
--- ---- the smallest free colour at a node
-
-mem-map : (f : ℕ → ℕ) (k : ℕ) (ks : List ℕ) → Mem k ks → Mem (f k) (map f ks)
-mem-map f k (j ∷ ks) (inl p) = inl (ap f p)
-mem-map f k (j ∷ ks) (inr p) = inr (mem-map f k ks p)
-
-map-mem : (f : ℕ → ℕ) (c : ℕ) (ks : List ℕ) → Mem c (map f ks) → (k : ℕ) × Mem k ks × (f k ≡ c)
-map-mem f c (j ∷ ks) (inl p) = (j, inl refl, sym p)
-map-mem f c (j ∷ ks) (inr p) = let r = map-mem f c ks p in (r .0, inr (r .1), r .2)
-
-module _ (l ks : List ℕ) where
-  abbrev law : SmallestFree (map (colorOf l) (coloredEdges l ks)) (smallestFree (map (colorOf l) (coloredEdges l ks)))
-  law = smallest-free (map (colorOf l) (coloredEdges l ks))
-
-  -- It is at most the number of the coloured edges.
-  pub smallest-free-colored : smallestFreeAt l ks ≤ length (coloredEdges l ks)
-  unfolding smallestFreeAt
-  smallest-free-colored = simp length-map at (law .bound)
-
-  pub smallest-free-bound : smallestFreeAt l ks ≤ length ks
-  smallest-free-bound = omega (arith, smallest-free-colored, colored-edges-length l ks)
-
-  -- A colour is the smallest free one if none of the edges has it and each smaller colour stands on one of them.
-  pub smallest-free-found : (c : ℕ) → c ≤ noColor → NoneHas l ks c → ((b : ℕ) → b < c → (k : ℕ) × Mem k ks × (colorOf l k ≡ b)) → smallestFreeAt l ks ≡ c
-  unfolding smallestFreeAt
-  smallest-free-found c h free used = smallest-unique colors (smallestFree colors) c law (record { free = none; smaller = smaller; bound = cover-bound c colors smaller })
-    where
-      colors : List ℕ
-      colors = map (colorOf l) (coloredEdges l ks)
-
-      none : Mem c colors → ⊥
-      none p = let r = map-mem (colorOf l) c (coloredEdges l ks) p in free (r .0) (colored-edge l ks (r .0) (r .1) .0) (r .2)
-
-      smaller : (b : ℕ) → b < c → Mem b colors
-      smaller b less =
-          let r = used b less in
-          subst (λ (x : ℕ). Mem x colors) (r .2) (mem-map (colorOf l) (r .0) (coloredEdges l ks) (edge-colored l ks (r .0) (r .1) (λ e. omega (arith, r .2))))
-
-  module _ (few : length ks < noColor) where
-    pub smallest-free-color : smallestFreeAt l ks ≢ noColor
-    smallest-free-color e = omega (arith, smallest-free-bound)
-
-    pub smallest-none-has : NoneHas l ks (smallestFreeAt l ks)
-    unfolding smallestFreeAt
-    smallest-none-has k p e =
-        let m = mem-map (colorOf l) k (coloredEdges l ks) (edge-colored l ks k p (λ z. smallest-free-color (sym e ∙ z))) in
-        law .free (subst (λ (c : ℕ). Mem c (map (colorOf l) (coloredEdges l ks))) e m)
-
-    pub smallest-is-free : isFree l ks (smallestFreeAt l ks) ≡ true
-    smallest-is-free = none-has-free l ks (smallestFreeAt l ks) smallest-none-has
+-- The smallest free colour at a node is free there.
+pub smallest-is-free : (l ks : List ℕ) → length ks < noColor → isFree l ks (smallestFreeAt l ks) ≡ true
+smallest-is-free l ks few = none-has-free l ks (smallestFreeAt l ks) (smallest-none-has l ks few)
 
 -- ---- joining the fan
 

@@ -12,7 +12,7 @@ use Rattle.graph.specs.Edges.{edgeCount, firstEnd, secondEnd, degree}
 use Rattle.graph.specs.CountLaws.{degree-bound}
 use Rattle.graph.specs.Report.{Report, accepted}
 use Rattle.graph.specs.Color.{Outcome}
-use Rattle.vizing.specs.MisraGries.{noColor, colorOf}
+use Rattle.graph.specs.Colored.{noColor, colorOf}
 use Rattle.vizing.specs.Simple.{Simple, Incident}
 
 -- ---- D

@@ -5,7 +5,7 @@ use mathlib.Core.Logic.{_⊎_, inl, inr, _≢_}
 use mathlib.Core.List.{List, [], _∷_}
 use Rattle.lists.specs.Tests.{dec-eq}
 use Rattle.lists.specs.Member.{Mem, Nodup}
-use Rattle.vizing.specs.MisraGries.{noColor}
+use Rattle.graph.specs.Colored.{noColor}
 use Rattle.vizing.specs.Coloring.{Free}
 use Rattle.vizing.specs.AlternatingPath.{swap-other, Meets, Exchanged, ExchangedAt, UnchangedAt}
 use Rattle.vizing.specs.AlternatingPath.{starts-with-d, free-at-end, at-node, at-start, free-exchanged, free-unchanged, exchange-colored}

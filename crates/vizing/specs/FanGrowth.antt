@@ -9,8 +9,10 @@ use Rattle.lists.specs.Tests.{by-test}
 use Rattle.lists.specs.Member.{Mem, Nodup, dec-mem, pigeonhole}
 use Rattle.graph.specs.Edges.{farEnd, edgesAt, degree}
 use Rattle.graph.specs.EdgeLaws.{edge-at, at-edge}
-use Rattle.vizing.specs.MisraGries.{noColor, colorOf, isFree, firstJoining, growFan, lastFarEnd, placesTo}
-use Rattle.vizing.specs.DefinitionLaws.{NoneHas, some-or-none, is-free-true, is-free-false, first-joining-some, first-joining-none}
+use Rattle.graph.specs.Colored.{noColor, colorOf}
+use Rattle.vizing.specs.MisraGries.{isFree, firstJoining, growFan, lastFarEnd, placesTo}
+use Rattle.graph.specs.ColoredLaws.{NoneHas}
+use Rattle.vizing.specs.DefinitionLaws.{some-or-none, is-free-true, is-free-false, first-joining-some, first-joining-none}
 use Rattle.vizing.specs.Coloring.{Free}
 use Rattle.vizing.specs.Simple.{Incident}
 use Rattle.vizing.specs.Fan.{lastEdge, Fan, UpTo}

@@ -13,14 +13,16 @@ use Rattle.lists.specs.Tests.{by-test}
 use Rattle.lists.specs.Member.{Mem}
 use Rattle.graph.specs.Edges.{edgeCount, firstEnd, secondEnd, isLoop, farEnd, secondAt, firstEdges, secondEdges, edgesAt}
 use Rattle.graph.specs.Color.{smallestFree}
-use Rattle.vizing.specs.MisraGries.{noColor, colorOf, isColored, edgeOfColor, isNone, isFree, coloredEdges, smallestFreeAt, joins, firstJoining, growFan, lastFarEnd, path, placesTo, find, step, Held, stepHeld, heldAfter, held}
-use Rattle.vizing.specs.DefinitionLaws.{some-or-none, is-colored-true, is-colored-false, edge-of-color-some, false-joins, first-joining-some, colored-edges-append, colored-edges-keep}
+use Rattle.graph.specs.Colored.{noColor, colorOf, isColored, coloredAmong, smallestFreeAt}
+use Rattle.vizing.specs.MisraGries.{edgeOfColor, isNone, isFree, joins, firstJoining, growFan, lastFarEnd, path, placesTo, find, step, Held, stepHeld, heldAfter, held}
+use Rattle.graph.specs.ColoredLaws.{is-colored-true, is-colored-false, colored-edges-append, colored-edges-keep}
+use Rattle.vizing.specs.DefinitionLaws.{some-or-none, edge-of-color-some, false-joins, first-joining-some}
 use Rattle.vizing.specs.LaterEdges.{UncoloredFrom, colored-before, free-color, fan-before, exchanged-uncolored, held-length, held-uncolored}
 
 -- ---- a search over a node's edges sees only the coloured ones
 
-edge-of-color-colored : (l : List ℕ) (c : ℕ) (ks : List ℕ) → c ≢ noColor → edgeOfColor l c ks ≡ edgeOfColor l c (coloredEdges l ks)
-unfolding edgeOfColor coloredEdges
+edge-of-color-colored : (l : List ℕ) (c : ℕ) (ks : List ℕ) → c ≢ noColor → edgeOfColor l c ks ≡ edgeOfColor l c (coloredAmong l ks)
+unfolding edgeOfColor coloredAmong
 edge-of-color-colored l c [] nc = refl
 edge-of-color-colored l c (k ∷ ks) nc =
     by-test (isColored l k)
@@ -29,25 +31,25 @@ edge-of-color-colored l c (k ∷ ks) nc =
     (λ s. absurd (nc (sym (eqb-true (colorOf l k) c s) ∙ is-colored-false l k t)))
     (λ s. rw (t, edgeOfColor, s) (edge-of-color-colored l c ks nc)))
 
-joins-colored : (l ks fan : List ℕ) (k : ℕ) → joins l ks fan k ≡ joins l (coloredEdges l ks) fan k
+joins-colored : (l ks fan : List ℕ) (k : ℕ) → joins l ks fan k ≡ joins l (coloredAmong l ks) fan k
 unfolding joins isFree
 joins-colored l ks fan k =
     by-test (isColored l k)
     (λ t. rw (edge-of-color-colored l (colorOf l k) ks (is-colored-true l k t)))
     (λ t. rw t)
 
-first-joining-colored : (l ks fan candidates : List ℕ) → firstJoining l ks fan candidates ≡ firstJoining l (coloredEdges l ks) fan (coloredEdges l candidates)
-unfolding firstJoining coloredEdges
+first-joining-colored : (l ks fan candidates : List ℕ) → firstJoining l ks fan candidates ≡ firstJoining l (coloredAmong l ks) fan (coloredAmong l candidates)
+unfolding firstJoining coloredAmong
 first-joining-colored l ks fan [] = refl
 first-joining-colored l ks fan (k ∷ candidates) =
     by-test (isColored l k)
-    (λ t. by-test (joins l (coloredEdges l ks) fan k)
+    (λ t. by-test (joins l (coloredAmong l ks) fan k)
     (λ s. rw (t, firstJoining, joins-colored l ks fan k, s))
     (λ s. rw (t, firstJoining, joins-colored l ks fan k, s) (first-joining-colored l ks fan candidates)))
     (λ t. rw (t, firstJoining, false-joins l ks fan k (λ j. j .1 (is-colored-false l k t))) (first-joining-colored l ks fan candidates))
 
 -- So two lists with the same coloured edges give the same.
-module _ (l js ks : List ℕ) (same : coloredEdges l js ≡ coloredEdges l ks) where
+module _ (l js ks : List ℕ) (same : coloredAmong l js ≡ coloredAmong l ks) where
   edge-of-color-same : (c : ℕ) → c ≢ noColor → edgeOfColor l c js ≡ edgeOfColor l c ks
   edge-of-color-same c nc = edge-of-color-colored l c js nc ∙ ap (edgeOfColor l c) same ∙ sym (edge-of-color-colored l c ks nc)
 
@@ -59,13 +61,13 @@ module _ (l js ks : List ℕ) (same : coloredEdges l js ≡ coloredEdges l ks) w
   unfolding smallestFreeAt
   smallest-free-same = ap (λ (is : List ℕ). smallestFree (map (colorOf l) is)) same
 
-first-joining-same : (l js ks fan ps qs : List ℕ) → coloredEdges l js ≡ coloredEdges l ks → coloredEdges l ps ≡ coloredEdges l qs → firstJoining l js fan ps ≡ firstJoining l ks fan qs
+first-joining-same : (l js ks fan ps qs : List ℕ) → coloredAmong l js ≡ coloredAmong l ks → coloredAmong l ps ≡ coloredAmong l qs → firstJoining l js fan ps ≡ firstJoining l ks fan qs
 first-joining-same l js ks fan ps qs d e = first-joining-colored l js fan ps ∙ rw (d, e) (sym (first-joining-colored l ks fan qs))
 
 -- ---- edges without a colour at the end of the list
 
 module _ (ends l : List ℕ) (v K : ℕ) (rest : UncoloredFrom l K) where
-  first-edges-colored : (m : ℕ) → K ≤ m → coloredEdges l (firstEdges ends K v) ≡ coloredEdges l (firstEdges ends m v)
+  first-edges-colored : (m : ℕ) → K ≤ m → coloredAmong l (firstEdges ends K v) ≡ coloredAmong l (firstEdges ends m v)
   unfolding firstEdges
   first-edges-colored zero h = let e : K ≡ zero = omega arith in rw e
   first-edges-colored (suc m) h = elim (decLt m K) [
@@ -73,7 +75,7 @@ module _ (ends l : List ℕ) (v K : ℕ) (rest : UncoloredFrom l K) where
     | no b ↦ first-edges-colored m (omega arith) ∙ sym (colored-edges-keep l (eqb (firstEnd ends m) v) m (firstEdges ends m v) (rest m (omega arith)))
   ]
 
-  second-edges-colored : (m : ℕ) → K ≤ m → coloredEdges l (secondEdges ends K v) ≡ coloredEdges l (secondEdges ends m v)
+  second-edges-colored : (m : ℕ) → K ≤ m → coloredAmong l (secondEdges ends K v) ≡ coloredAmong l (secondEdges ends m v)
   unfolding secondEdges
   second-edges-colored zero h = let e : K ≡ zero = omega arith in rw e
   second-edges-colored (suc m) h = elim (decLt m K) [
@@ -81,7 +83,7 @@ module _ (ends l : List ℕ) (v K : ℕ) (rest : UncoloredFrom l K) where
     | no b ↦ second-edges-colored m (omega arith) ∙ sym (colored-edges-keep l (secondAt ends m v) m (secondEdges ends m v) (rest m (omega arith)))
   ]
 
-  edges-at-colored : (m : ℕ) → K ≤ m → coloredEdges l (edgesAt ends K v) ≡ coloredEdges l (edgesAt ends m v)
+  edges-at-colored : (m : ℕ) → K ≤ m → coloredAmong l (edgesAt ends K v) ≡ coloredAmong l (edgesAt ends m v)
   unfolding edgesAt
   edges-at-colored m h =
       colored-edges-append l (firstEdges ends K v) (secondEdges ends K v)
@@ -114,7 +116,7 @@ module _ (first ends : List ℕ) (K : ℕ) (agree : (j : ℕ) → j < K → (fir
   last-far-end-agree u x (k ∷ fan) before = rw (far-end-agree k u (before k (inl refl))) (last-far-end-agree u (farEnd ends k u) fan (λ j p. before j (inr p)))
 
   module _ (m : ℕ) (K≤m : K ≤ m) (l : List ℕ) (rest : UncoloredFrom l K) where
-    same-colored : (v : ℕ) → coloredEdges l (edgesAt first K v) ≡ coloredEdges l (edgesAt ends m v)
+    same-colored : (v : ℕ) → coloredAmong l (edgesAt first K v) ≡ coloredAmong l (edgesAt ends m v)
     same-colored v = rw (edges-at-agree v) (edges-at-colored ends l v K rest m K≤m)
 
     grow-fan-agree : (fuel u : ℕ) (fan : List ℕ) (x : ℕ) → growFan first K fuel l u fan x ≡ growFan ends m fuel l u fan x

@@ -12,7 +12,8 @@ use borrow.Author.Tests.{eqb-false, ne-eqb, ltb-true, ltb-false, not-true}
 use Rattle.lists.specs.Tests.{by-test, and-true, true-and}
 use Rattle.lists.specs.Member.{Mem, Nodup, dec-mem}
 use Rattle.graph.specs.Edges.{firstEnd, secondEnd}
-use Rattle.vizing.specs.MisraGries.{noColor, colorOf, greatestColor, Found, find, step}
+use Rattle.graph.specs.Colored.{noColor, colorOf}
+use Rattle.vizing.specs.MisraGries.{greatestColor, Found, find, step}
 use Rattle.vizing.specs.Simple.{Simple}
 use Rattle.vizing.specs.AlternatingPath.{swap-left, swap-right, path-edge, Exchanged, starts-with-d, at-start, exchange-uncolored}
 use Rattle.vizing.specs.Fan.{lastEdge}

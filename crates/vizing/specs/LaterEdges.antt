@@ -10,8 +10,10 @@ use Rattle.lists.specs.Tests.{by-test}
 use Rattle.lists.specs.Member.{Mem, Nodup, nodup-bound}
 use Rattle.graph.specs.Edges.{firstEnd, secondEnd, farEnd, edgesAt}
 use Rattle.graph.specs.EdgeLaws.{edges-at-nodup}
-use Rattle.vizing.specs.MisraGries.{noColor, colorOf, isColored, edgeOfColor, isFree, coloredEdges, smallestFreeAt, store, firstJoining, growFan, lastFarEnd, path, swap, exchange, placesTo, rotate, find, step, stepHeld, heldAfter}
-use Rattle.vizing.specs.DefinitionLaws.{some-or-none, colored-inside, color-replicate, edge-of-color-some, colored-edge, smallest-free-colored, first-joining-some, length-store, color-store-other}
+use Rattle.graph.specs.Colored.{noColor, colorOf, isColored, coloredAmong, smallestFreeAt}
+use Rattle.vizing.specs.MisraGries.{edgeOfColor, isFree, store, firstJoining, growFan, lastFarEnd, path, swap, exchange, placesTo, rotate, find, step, stepHeld, heldAfter}
+use Rattle.graph.specs.ColoredLaws.{colored-inside, color-replicate, colored-edge, smallest-free-colored}
+use Rattle.vizing.specs.DefinitionLaws.{some-or-none, edge-of-color-some, first-joining-some, length-store, color-store-other}
 
 -- The edges from k on have no colour.
 abbrev pub UncoloredFrom : List ℕ → ℕ → Type 0
@@ -22,17 +24,17 @@ colored-before l k rest j n = elim (decLt j k) [ yes h ↦ h | no h ↦ absurd (
 
 -- ---- the smallest free colour is a colour, whatever the graph
 
-colored-edges-nodup : (l ks : List ℕ) → Nodup ks → Nodup (coloredEdges l ks)
-unfolding coloredEdges
+colored-edges-nodup : (l ks : List ℕ) → Nodup ks → Nodup (coloredAmong l ks)
+unfolding coloredAmong
 colored-edges-nodup l [] u = tt
 colored-edges-nodup l (k ∷ ks) u =
     by-test (isColored l k)
-    (λ t. rw (t, coloredEdges) (λ p. u .0 (colored-edge l ks k p .0), colored-edges-nodup l ks (u .1)))
-    (λ t. rw (t, coloredEdges) (colored-edges-nodup l ks (u .1)))
+    (λ t. rw (t, coloredAmong) (λ p. u .0 (colored-edge l ks k p .0), colored-edges-nodup l ks (u .1)))
+    (λ t. rw (t, coloredAmong) (colored-edges-nodup l ks (u .1)))
 
 -- Only edges with a place in the list are coloured.
-colored-edges-few : (l ks : List ℕ) → Nodup ks → length (coloredEdges l ks) ≤ length l
-colored-edges-few l ks u = nodup-bound (length l) (coloredEdges l ks) (colored-edges-nodup l ks u) (λ k p. colored-inside l k (colored-edge l ks k p .1))
+colored-edges-few : (l ks : List ℕ) → Nodup ks → length (coloredAmong l ks) ≤ length l
+colored-edges-few l ks u = nodup-bound (length l) (coloredAmong l ks) (colored-edges-nodup l ks u) (λ k p. colored-inside l k (colored-edge l ks k p .1))
 
 module _ (ends : List ℕ) (m : ℕ) (l : List ℕ) where
   pub free-color : length l < noColor → (v : ℕ) → smallestFreeAt l (edgesAt ends m v) ≢ noColor

@@ -1,28 +1,18 @@
 -- Misra-Gries edge colouring as executable definitions, in the words of 01's steps 1 to 5.
-use Prim.Native.Nat.{ℕ, zero, suc, _+_, _*_}
+use Prim.Native.Nat.{ℕ, zero, suc, _+_}
 use mathlib.Core.List.{List, [], _∷_, _++_, map}
 use mathlib.Core.Option.{Option, none, some}
 use mathlib.Core.Bool.{Bool, true, false, not, _&&_, _||_, cond}
-use lib.ListN.{length, getD, set, take, replicate}
+use lib.ListN.{length, set, take, replicate}
 use lib.Dec.{eqb, ltb}
 use Rattle.lists.specs.Member.{elem}
 use Rattle.lists.specs.Search.{any}
-use Rattle.graph.specs.Edges.{edgeCount, firstEnd, secondEnd, isLoop, farEnd, keep, edgesAt}
+use Rattle.graph.specs.Edges.{edgeCount, firstEnd, secondEnd, isLoop, farEnd, edgesAt}
 use Rattle.graph.specs.Check.{Check, _gives_, graphChecks, lengthCheck}
-use Rattle.graph.specs.Color.{Outcome, colored, smallestFree}
+use Rattle.graph.specs.Color.{Outcome, colored}
+use Rattle.graph.specs.Colored.{noColor, colorOf, isColored, smallestFreeAt}
 
 -- ---- colours in a working list
-
--- "65,535 means none, in presets and in working lists"
-abbrev pub noColor : ℕ
-noColor = 65535
-
--- The colour of edge k in the working list l.
-unfoldable pub colorOf : List ℕ → ℕ → ℕ
-colorOf l k = getD l k noColor
-
-unfoldable pub isColored : List ℕ → ℕ → Bool
-isColored l k = not (eqb (colorOf l k) noColor)
 
 -- The first of these edges that has colour c.
 unfoldable pub edgeOfColor : List ℕ → ℕ → List ℕ → Option ℕ
@@ -36,15 +26,6 @@ isNone (some k) = false
 -- Colour c is free at the node whose edges these are: none of them has it.
 unfoldable pub isFree : List ℕ → List ℕ → ℕ → Bool
 isFree l ks c = isNone (edgeOfColor l c ks)
-
--- Those of these edges that are coloured.
-unfoldable pub coloredEdges : List ℕ → List ℕ → List ℕ
-coloredEdges l [] = []
-coloredEdges l (k ∷ ks) = keep (isColored l k) k (coloredEdges l ks)
-
--- "The smallest free colour at a node is the smallest that no coloured edge there has."
-unfoldable pub smallestFreeAt : List ℕ → List ℕ → ℕ
-smallestFreeAt l ks = smallestFree (map (colorOf l) (coloredEdges l ks))
 
 -- The colours cs stored at the places ks, one after the other.
 unfoldable pub store : List ℕ → List ℕ → List ℕ → List ℕ

@@ -5,8 +5,8 @@ use mathlib.Core.List.{List}
 use native.Mathlib.Omega.{arith}
 use Rattle.graph.specs.Edges.{edgesAt, degree}
 use Rattle.graph.specs.EdgeLaws.{at-edge}
-use Rattle.vizing.specs.MisraGries.{noColor, colorOf, smallestFreeAt}
-use Rattle.vizing.specs.DefinitionLaws.{smallest-free-bound, smallest-none-has}
+use Rattle.graph.specs.Colored.{noColor, colorOf, smallestFreeAt}
+use Rattle.graph.specs.ColoredLaws.{smallest-free-bound, smallest-none-has}
 use Rattle.vizing.specs.Coloring.{Free}
 use Rattle.vizing.specs.Simple.{Incident}
 

@@ -8,7 +8,8 @@ use lib.ListN.{length}
 use Rattle.lists.specs.Member.{Mem, Nodup, nodup-bound}
 use Rattle.graph.specs.Edges.{farEnd, edgesAt}
 use Rattle.graph.specs.EdgeLaws.{edge-at, at-edge}
-use Rattle.vizing.specs.MisraGries.{noColor, colorOf, edgeOfColor, path}
+use Rattle.graph.specs.Colored.{noColor, colorOf}
+use Rattle.vizing.specs.MisraGries.{edgeOfColor, path}
 use Rattle.vizing.specs.DefinitionLaws.{some-or-none, edge-of-color-some, edge-of-color-none}
 use Rattle.vizing.specs.Coloring.{Graph, Free, Proper}
 use Rattle.vizing.specs.AlternatingPath.{Alternating}

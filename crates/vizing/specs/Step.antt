@@ -10,7 +10,8 @@ use Rattle.lists.specs.Member.{Mem, Nodup, dec-mem}
 use Rattle.graph.specs.Edges.{firstEnd, secondEnd, farEnd, degree}
 use Rattle.graph.specs.EdgeLaws.{far-first, at-edge}
 use Rattle.graph.specs.CountLaws.{degree-bound}
-use Rattle.vizing.specs.MisraGries.{noColor, colorOf, growFan, lastFarEnd, placesTo, Found, find, step}
+use Rattle.graph.specs.Colored.{noColor, colorOf}
+use Rattle.vizing.specs.MisraGries.{growFan, lastFarEnd, placesTo, Found, find, step}
 use Rattle.vizing.specs.Coloring.{Graph, Free, Proper}
 use Rattle.vizing.specs.Simple.{Simple, Incident}
 use Rattle.vizing.specs.SimpleGraph.{simple-graph}

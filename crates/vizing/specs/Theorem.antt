@@ -10,8 +10,9 @@ use Rattle.graph.specs.EdgeLaws.{at-edge}
 use Rattle.graph.specs.CountLaws.{degree-bound}
 use Rattle.graph.specs.CheckLaws.{answered-accepted, written-accepted}
 use Rattle.graph.specs.Color.{daysOf, colored}
-use Rattle.vizing.specs.MisraGries.{noColor, colorOf, smallestFreeAt, held, misraGriesChecks, misraGries}
-use Rattle.vizing.specs.DefinitionLaws.{color-read, color-take, smallest-free-bound, smallest-none-has}
+use Rattle.graph.specs.Colored.{noColor, colorOf, smallestFreeAt}
+use Rattle.vizing.specs.MisraGries.{held, misraGriesChecks, misraGries}
+use Rattle.graph.specs.ColoredLaws.{color-read, color-take, smallest-free-bound, smallest-none-has}
 use Rattle.vizing.specs.LaterEdges.{held-length, held-uncolored}
 use Rattle.vizing.specs.FirstEdges.{edge-count-take, held-take}
 use Rattle.vizing.specs.Simple.{Incident}

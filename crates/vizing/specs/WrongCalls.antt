@@ -7,7 +7,8 @@ use native.Mathlib.Omega.{arith}
 use lib.ListN.{getD, take, replicate}
 use Rattle.graph.specs.Edges.{edgeCount, firstEnd, secondEnd}
 use Rattle.graph.specs.Report.{accepted, refused}
-use Rattle.vizing.specs.MisraGries.{noColor, colorOf, held}
+use Rattle.graph.specs.Colored.{noColor, colorOf}
+use Rattle.vizing.specs.MisraGries.{held}
 use Rattle.vizing.specs.Demand3.{maxDegree, Accurate, Accepted, Call, Demand3}
 use Rattle.vizing.specs.Demand3Examples.{triangle, listP13, triangle-admitted, triangle-max-degree, p13-admitted, p13-max-degree, runs}
 use Rattle.vizing.specs.Theorem.{left-over}

@@ -13,7 +13,8 @@ use Rattle.graph.specs.Edges.{firstEnd, secondEnd, isLoop, farEnd, secondAt, fi
 use Rattle.graph.specs.Color.{Outcome, colored, daysOf, smallestFree, smallestFrom}
 use Rattle.two_color.specs.Sides.{lower, givesWay, lowest, oddSide, oddCycle, sideColor, sides}
 use Rattle.two_color.specs.TwoColor.{inputChecks, twoColor}
-use Rattle.vizing.specs.MisraGries.{colorOf, isColored, edgeOfColor, isFree, coloredEdges, smallestFreeAt, store, joins, firstJoining, growFan, lastFarEnd, path, swap, exchange, placesTo, rotate, greatestColor, find, step, stepHeld, heldAfter, held, hasLoop, sameEnds, hasDoubleEdge, misraGriesChecks, misraGries}
+use Rattle.graph.specs.Colored.{colorOf, isColored, coloredAmong, smallestFreeAt}
+use Rattle.vizing.specs.MisraGries.{edgeOfColor, isFree, store, joins, firstJoining, growFan, lastFarEnd, path, swap, exchange, placesTo, rotate, greatestColor, find, step, stepHeld, heldAfter, held, hasLoop, sameEnds, hasDoubleEdge, misraGriesChecks, misraGries}
 
 -- Which call a row is of.
 pub data Call : Type 0 where
@@ -79,5 +80,5 @@ rows =
     ∷ []
 
 pub examples : all rows ≡ true
-unfolding all rows holds outcome same sameReport twoColor inputChecks colored daysOf sides tabulate sideColor oddCycle oddSide lowest givesWay lower firstEnd secondEnd graphChecks firstRefusal answered written allBelow xor elem any isLoop farEnd secondAt firstEdges secondEdges edgesAt smallestFree smallestFrom colorOf isColored edgeOfColor isFree coloredEdges smallestFreeAt store joins firstJoining growFan lastFarEnd path swap exchange placesTo rotate greatestColor find step stepHeld heldAfter held hasLoop sameEnds hasDoubleEdge misraGriesChecks misraGries
+unfolding all rows holds outcome same sameReport twoColor inputChecks colored daysOf sides tabulate sideColor oddCycle oddSide lowest givesWay lower firstEnd secondEnd graphChecks firstRefusal answered written allBelow xor elem any isLoop farEnd secondAt firstEdges secondEdges edgesAt smallestFree smallestFrom colorOf isColored edgeOfColor isFree coloredAmong smallestFreeAt store joins firstJoining growFan lastFarEnd path swap exchange placesTo rotate greatestColor find step stepHeld heldAfter held hasLoop sameEnds hasDoubleEdge misraGriesChecks misraGries
 examples = refl

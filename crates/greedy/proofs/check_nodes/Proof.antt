@@ -1,0 +1,42 @@
+use Rattle.greedy.specs.CallLaws.{check-refuses, colors-wrong, presets-wrong, checks-pass}
+use borrow.Author.Needs.{needs}
+use native.Mathlib.Omega.{arith}
+use borrow.Author.Needs.{needs}
+use Rattle.greedy.proofs.check_nodes.Statement.{statement}
+use Rattle.greedy.proofs.check_nodes.Tie as tie
+use Rattle.greedy.proofs.check_nodes.Reads as reads
+use Rattle.greedy.proofs.check_nodes.Lts as lts
+use Rattle.graph.proofs.check_graph.Reads as check-graph-reads
+
+check-graph-requires : tie.Need-check-graph-requires
+check-graph-requires c κs = search needs
+
+enum-known-refusal : tie.Need-enum-known-refusal
+enum-known-refusal c = search needs
+
+returns : tie.Need-returns
+returns c = check-refuses _ _ _ _ _ _ (c .before .before .before .check-graph .ensures) (c .before .refusal .given .1)
+
+enum-known-graph : tie.Need-enum-known-graph
+enum-known-graph c = search needs
+
+returns-2 : tie.Need-returns-2
+returns-2 c = colors-wrong _ _ _ _ _ _ (c .before .before .before .before .before .check-graph .ensures) (c .before .before .before .graph .given .1) (c .if1 .taken)
+
+returns-3 : tie.Need-returns-3
+returns-3 c = presets-wrong _ _ _ _ _ _ (c .before .before .before .before .before .before .before .check-graph .ensures) (c .before .before .before .before .before .graph .given .1) (c .before .before .if1 .left) (c .if2 .taken)
+
+returns-4 : tie.Need-returns-4
+returns-4 c = checks-pass _ _ _ _ _ _ (c .before .before .before .before .before .before .before .check-graph .ensures) (c .before .before .before .before .before .graph .given .1) (c .before .before .if1 .left) (c .if2 .left)
+
+pub check-nodes-spec : {M : Type 1} → statement M
+check-nodes-spec =
+    tie.close
+    (tie.spec
+    check-graph-requires
+    enum-known-refusal
+    returns
+    enum-known-graph
+    returns-2
+    returns-3
+    returns-4)

@@ -1,0 +1,73 @@
+// The smallest free colour at a node, by marks: one pass over the neighbours' colours, one over the marks.
+ghost use mathlib.Core.Path.{_≡_};
+ghost use mathlib.Core.List.{List, []};
+ghost use lib.ListN.{length, set};
+ghost use Rattle.graph.specs.Color.{smallestFrom};
+ghost use Rattle.graph.specs.Colored.{colorOf};
+ghost use Rattle.graph.specs.Stretch.{stretch};
+ghost use Rattle.greedy.specs.Marks.{farColors, Marked, FirstUnmarked};
+use graph::Color;
+use graph::EdgeIndex;
+use graph::NodeIndex;
+use graph::edges_at;
+use graph::far_end;
+
+// Marks a colour, if there is a place for it.
+fn mark(marks: &mut [u8], color: Color)
+    ensures { λ _. ⌜ now (marks .exit) ≡ set (now (marks .entry)) (color .0) 1 ⌝ }
+{
+    let c = color.0 as usize;
+    if c < marks.len() {
+        marks[c] = 1;
+    }
+}
+
+// The colour of a node, none beyond the list.
+fn color_of(colors: &[u16], node: NodeIndex) -> Color
+    ensures { λ r. ⌜ r .0 ≡ colorOf (now (colors .entry)) (node .0) ⌝ }
+{
+    let v = node.0 as usize;
+    if v < colors.len() {
+        Color(colors[v])
+    } else {
+        Color(Color::NONE)
+    }
+}
+
+// Marks the colours at the far ends of these edges of the node.
+fn mark_far_colors(ends: &[u16], edges: &[u16], colors: &[u16], node: NodeIndex, marks: &mut [u8])
+    requires { ⌜ Marked (now marks) [] ⌝ }
+    ensures { λ _. ⌜ Marked (now (marks .exit)) (farColors (now (ends .entry)) (now (colors .entry)) (node .0) (now (edges .entry))) ⌝ }
+    ensures { λ _. ⌜ length (now (marks .exit)) ≡ length (now (marks .entry)) ⌝ }
+{
+    let mut i = 0;
+    while i < edges.len() {
+        let far = far_end(ends, EdgeIndex(edges[i]), node);
+        mark(marks, color_of(colors, far));
+        i += 1;
+    }
+}
+
+// The first place without a mark, or the end.
+fn first_unmarked(marks: &[u8]) -> usize
+    ensures { λ r. ⌜ FirstUnmarked (now (marks .entry)) r ⌝ }
+{
+    let mut c = 0;
+    while c < marks.len() {
+        if marks[c] == 0 {
+            return c;
+        }
+        c += 1;
+    }
+    c
+}
+
+// The smallest colour that no neighbour has, of the first 512: a node has fewer different other neighbours.
+pub fn smallest_color(ends: &[u16], starts: &[u16], entries: &[u16], colors: &[u16], node: NodeIndex) -> Color
+    ensures { λ r. ⌜ r .0 ≡ smallestFrom 512 (farColors (now (ends .entry)) (now (colors .entry)) (node .0) (stretch (now (starts .entry)) (now (entries .entry)) (node .0))) 0 ⌝ }
+{
+    let mut marks = [0u8; 512];
+    let edges = edges_at(starts, entries, node);
+    mark_far_colors(ends, edges, colors, node, &mut marks);
+    Color(first_unmarked(&marks) as u16)
+}
