@@ -1,5 +1,6 @@
 -- Greedy colouring: the three strategies over a number of items and their neighbours, and the call's outcome.
 pub mod Turn
+pub mod UncoloredLaws
 pub mod Degree
 pub mod Saturation
 pub mod IndependentSet
@@ -7,4 +8,5 @@ pub mod Call
 pub mod CallLaws
 pub mod Greedy
 pub mod GreedyLaws
+pub mod TurnLaws
 pub mod Marks
