@@ -9,4 +9,5 @@ pub mod CallLaws
 pub mod Greedy
 pub mod GreedyLaws
 pub mod TurnLaws
+pub mod SaturationLaws
 pub mod Marks

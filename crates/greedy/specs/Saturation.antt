@@ -45,6 +45,15 @@ module _ (nb : ℕ → List ℕ) where
         | v ∷ vs ↦ saturationFrom n turns (colorItem nb colors (greatest colors v vs))
       ]
 
+  -- The items in the order of their turns.
+  unfoldable pub orderFrom : ℕ → ℕ → List ℕ → List ℕ
+  orderFrom n zero colors = []
+  orderFrom n (suc turns) colors =
+      elim (uncolored colors n) [
+        | [] ↦ []
+        | v ∷ vs ↦ greatest colors v vs ∷ orderFrom n turns (colorItem nb colors (greatest colors v vs))
+      ]
+
   -- "Presets as above. The next node has the greatest number .."
   unfoldable pub saturationColors : ℕ → List ℕ → List ℕ
   saturationColors n presets = saturationFrom n n presets
