@@ -1,11 +1,22 @@
--- The neighbours of a graph's nodes.
+-- The neighbours of a graph's nodes, and how great an item's colour can be.
 use Prim.Native.Nat.{ℕ, _≤_, _<_}
-use mathlib.Core.List.{List}
+use mathlib.Core.Path.{_≡_, refl, subst}
+use mathlib.Core.Logic.{_⊎_, inl, inr, _≢_}
+use mathlib.Core.List.{List, [], _∷_, map}
+use mathlib.Core.Bool.{Bool, true, false, not}
 use native.Mathlib.Omega.{arith}
+use lib.ListN.{length, length-map}
+use lib.Dec.{eqb}
+use borrow.Author.Tests.{eqb-true, ne-eqb}
+use Rattle.lists.specs.Tests.{by-test}
+use Rattle.lists.specs.Member.{Mem, mem-map, cover-bound}
+use Rattle.lists.specs.Different.{distinct, different, member-distinct}
+use Rattle.graph.specs.Colored.{noColor, colorOf}
+use Rattle.greedy.specs.Turn.{others}
 use Rattle.graph.specs.Edges.{edgeCount, neighbors}
 use Rattle.graph.specs.CheckLaws.{Passed}
 use Rattle.graph.specs.NeighborLaws.{neighbor-symmetric, neighbor-times, passed-neighbor, passed-degree}
-use Rattle.greedy.specs.Greedy.{Neighborhood}
+use Rattle.greedy.specs.Greedy.{Neighborhood, Greedy}
 
 pub node-neighborhood : (n : ℕ) (ends : List ℕ) → Passed n ends → Neighborhood (neighbors ends (edgeCount ends)) n
 node-neighborhood n ends p = record {
@@ -15,3 +26,17 @@ node-neighborhood n ends p = record {
   times = λ v w h k d. neighbor-times ends (edgeCount ends) v w d;
   few = λ v h. omega (arith, passed-degree n ends p v);
 }
+
+other-member : (v w : ℕ) (ws : List ℕ) → Mem w ws → w ≢ v → Mem w (others v ws)
+unfolding others
+other-member v w (x ∷ ws) (inl e) d = rw (ne-eqb x v (λ z. d (rw e z))) (inl e)
+other-member v w (x ∷ ws) (inr p) d = by-test (eqb x v) (λ t. rw t (other-member v w ws p d)) (λ t. rw t (inr (other-member v w ws p d)))
+
+-- "The smallest" means: the colour of an item without a preset is at most the number of its different other neighbours.
+pub greedy-bound : (nb : ℕ → List ℕ) (n : ℕ) (presets colors : List ℕ) → Greedy nb n presets colors → (v : ℕ) → v < n → colorOf presets v ≡ noColor → colorOf colors v ≤ different (others v (nb v))
+unfolding different
+greedy-bound nb n presets colors g v h e =
+    let ws = distinct (others v (nb v)) in
+    omega (arith, length-map ws (colorOf colors), cover-bound (colorOf colors v) (map (colorOf colors) ws) (λ c b.
+        let r = g .supported v h e c b in
+        subst (λ (x : ℕ). Mem x (map (colorOf colors) ws)) (r .3) (mem-map (colorOf colors) (r .0) ws (member-distinct (others v (nb v)) (r .0) (other-member v (r .0) (nb v) (r .1) (r .2))))))

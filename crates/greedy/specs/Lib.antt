@@ -10,4 +10,5 @@ pub mod Greedy
 pub mod GreedyLaws
 pub mod TurnLaws
 pub mod SaturationLaws
+pub mod CallerLaws
 pub mod Marks

@@ -1,9 +1,10 @@
 -- What the strategies share. Items are numbered from 0, and `nb` gives each item's neighbours in incidence order: for the nodes of a graph
 -- `neighbors` of its edge list, for its edges that of the line list.
 use Prim.Native.Nat.{ℕ, zero, suc}
-use mathlib.Core.List.{List, [], _++_}
+use mathlib.Core.List.{List, [], _∷_, _++_}
 use mathlib.Core.Bool.{not}
 use lib.ListN.{set}
+use lib.Dec.{eqb}
 use Rattle.graph.specs.Edges.{keep}
 use Rattle.graph.specs.Colored.{isColored, smallestFreeAt}
 
@@ -15,3 +16,8 @@ uncolored colors (suc n) = uncolored colors n ++ keep (not (isColored colors n))
 -- Item v "takes the smallest colour that no already coloured neighbour has".
 unfoldable pub colorItem : (ℕ → List ℕ) → List ℕ → ℕ → List ℕ
 colorItem nb colors v = set colors v (smallestFreeAt colors (nb v))
+
+-- Those of these items that are not v: its other neighbours, for its own loop makes an item a neighbour of itself.
+unfoldable pub others : ℕ → List ℕ → List ℕ
+others v [] = []
+others v (w ∷ ws) = keep (not (eqb w v)) w (others v ws)
