@@ -1,0 +1,56 @@
+// Greedy node colouring: the three public calls.
+ghost use mathlib.Core.Path.{_≡_};
+ghost use mathlib.Core.List.{[]};
+ghost use Rattle.graph.specs.Report.{reportOfColoring};
+ghost use Rattle.greedy.specs.Degree.{degreeColors};
+ghost use Rattle.greedy.specs.Call.{ruleOf, greedyNodes, greedyNodesPlain, HolidayLookup, PageGrid};
+use graph::Color;
+use graph::Coloring;
+use graph::Graph;
+use greedy::ColoringStrategy;
+
+// Degree without presets. The local list stands for as many empty presets as there are colours; where there are more colours
+// than a graph may have nodes, the length is refused whatever the presets.
+pub fn greedy_node_color(n: usize, ends: &[u16], colors: &mut [u16]) -> Coloring
+    ensures { λ r. ⌜ reportOfColoring r ≡ greedyNodesPlain degreeColors n (now (ends .entry)) (now (colors .entry)) .report ⌝ }
+    ensures { λ _. ⌜ now (colors .exit) ≡ greedyNodesPlain degreeColors n (now (ends .entry)) (now (colors .entry)) .colors ⌝ }
+    ensures grid { λ r. ⌜ PageGrid n (now (ends .entry)) [] (reportOfColoring r) (now (colors .exit)) ⌝ }
+{
+    let presets = [Color::NONE; 512];
+    let lent = colors.len();
+    if lent <= Graph::MAX_NODES {
+        degree::color_nodes(n, ends, &presets[..lent], colors)
+    } else {
+        degree::color_nodes(n, ends, &presets, colors)
+    }
+}
+
+// Degree with presets.
+pub fn greedy_node_color_with_preset_colors(n: usize, ends: &[u16], presets: &[u16], colors: &mut [u16]) -> Coloring
+    ensures { λ r. ⌜ reportOfColoring r ≡ greedyNodes degreeColors n (now (ends .entry)) (now (presets .entry)) (now (colors .entry)) .report ⌝ }
+    ensures { λ _. ⌜ now (colors .exit) ≡ greedyNodes degreeColors n (now (ends .entry)) (now (presets .entry)) (now (colors .entry)) .colors ⌝ }
+    ensures holidays { λ r. ⌜ HolidayLookup n (now (presets .entry)) (reportOfColoring r) (now (colors .exit)) ⌝ }
+    ensures grid { λ r. ⌜ PageGrid n (now (ends .entry)) (now (presets .entry)) (reportOfColoring r) (now (colors .exit)) ⌝ }
+{
+    degree::color_nodes(n, ends, presets, colors)
+}
+
+// Any strategy with presets.
+pub fn greedy_node_color_with_coloring_strategy(
+    n: usize,
+    ends: &[u16],
+    presets: &[u16],
+    strategy: ColoringStrategy,
+    colors: &mut [u16],
+) -> Coloring
+    ensures { λ r. ⌜ reportOfColoring r ≡ greedyNodes (ruleOf strategy) n (now (ends .entry)) (now (presets .entry)) (now (colors .entry)) .report ⌝ }
+    ensures { λ _. ⌜ now (colors .exit) ≡ greedyNodes (ruleOf strategy) n (now (ends .entry)) (now (presets .entry)) (now (colors .entry)) .colors ⌝ }
+    ensures holidays { λ r. ⌜ HolidayLookup n (now (presets .entry)) (reportOfColoring r) (now (colors .exit)) ⌝ }
+    ensures grid { λ r. ⌜ PageGrid n (now (ends .entry)) (now (presets .entry)) (reportOfColoring r) (now (colors .exit)) ⌝ }
+{
+    match strategy {
+        ColoringStrategy::Degree => degree::color_nodes(n, ends, presets, colors),
+        ColoringStrategy::Saturation => saturation::color_nodes(n, ends, presets, colors),
+        ColoringStrategy::IndependentSet => independent_set::color_nodes(n, ends, presets, colors),
+    }
+}
