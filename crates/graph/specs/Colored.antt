@@ -1,9 +1,9 @@
 -- Colours in a list by number, of nodes or of edges.
 use Prim.Native.Nat.{ℕ}
-use mathlib.Core.List.{List, [], _∷_, map}
 use mathlib.Core.Bool.{Bool, not}
-use lib.ListN.{getD}
+use mathlib.Core.List.{List, [], _∷_, map}
 use lib.Dec.{eqb}
+use lib.ListN.{getD}
 use Rattle.graph.specs.Edges.{keep}
 use Rattle.graph.specs.Color.{smallestFree}
 

@@ -1,21 +1,21 @@
 -- The outcome of greedy node colouring, and what its callers rely on.
 use Prim.Native.Nat.{ℕ, _<_}
-use mathlib.Core.Path.{_≡_}
-use mathlib.Core.Logic.{_⊎_, _≢_}
-use mathlib.Core.List.{List, [], _∷_, _++_}
 use mathlib.Core.Bool.{not, _&&_}
-use lib.ListN.{length, replicate}
+use mathlib.Core.List.{List, [], _∷_, _++_}
+use mathlib.Core.Logic.{_⊎_, _≢_}
+use mathlib.Core.Path.{_≡_}
 use lib.Dec.{eqb}
+use lib.ListN.{length, replicate}
 use Rattle.graph.specs.Report.{Report, accepted}
 use Rattle.graph.specs.Check.{Check, _gives_, answered, graphChecks, lengthCheck}
 use Rattle.graph.specs.Edges.{edgeCount, firstEnd, secondEnd, neighbors}
 use Rattle.graph.specs.Color.{Outcome, colored}
 use Rattle.graph.specs.Colored.{noColor, colorOf}
 use Rattle.greedy.specs.declared.ColoringStrategy.{ColoringStrategy}
-use Rattle.greedy.specs.declared.ColoringStrategy.the-variants as S
 use Rattle.greedy.specs.Degree.{degreeColors}
 use Rattle.greedy.specs.Saturation.{saturationColors}
 use Rattle.greedy.specs.IndependentSet.{independentSetColors}
+use Rattle.greedy.specs.declared.ColoringStrategy.the-variants as S
 
 -- A strategy: of the items' neighbours, their number and their presets, the colours.
 abbrev pub Rule : Type 0

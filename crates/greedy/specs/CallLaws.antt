@@ -1,14 +1,14 @@
 -- Laws of the checks of node colouring and of the calls: one for each answer.
 use Prim.Native.Nat.{ℕ}
-use mathlib.Core.Path.{_≡_, refl, sym, ap, _∙_}
-use mathlib.Core.List.{List, [], _∷_}
 use mathlib.Core.Bool.{Bool, true, false, not, _&&_, true≢false}
+use mathlib.Core.List.{List, [], _∷_}
 use mathlib.Core.Option.{none, some}
-use lib.ListN.{length}
+use mathlib.Core.Path.{_≡_, sym, ap, _∙_}
 use lib.Dec.{eqb}
+use lib.ListN.{length}
 use borrow.Author.Tests.{eq-eqb, ne-eqb, eqb-true, not-false}
 use Rattle.lists.specs.Tests.{by-test, and-true}
-use Rattle.graph.specs.Report.{Report, accepted, refused, number, reportOfChecked}
+use Rattle.graph.specs.Report.{accepted, refused, number, reportOfChecked}
 use Rattle.graph.specs.Check.{Check, _gives_, firstRefusal, graphChecks, checkGraph}
 use Rattle.graph.specs.CheckLaws.{Passed, passed, refused-first, passed-first, passed-both, first-refuses, first-passes, all-passed, answered-refused, answered-accepted, written-refused, written-accepted, checked-refused, checked-accepted, graph-refused, graph-accepted}
 use Rattle.graph.specs.Edges.{edgeCount, neighbors}

@@ -1,25 +1,25 @@
 -- What the callers rely on follows from the outcome, for every strategy whose colours are greedy; and the form without presets.
-use Prim.Native.Nat.{ℕ, _≤_, _<_}
-use mathlib.Core.Path.{_≡_, refl, sym, ap, subst, _∙_}
-use mathlib.Core.Logic.{_⊎_, inl, inr, _≢_}
+use Prim.Native.Nat.{ℕ, _≤_}
+use mathlib.Core.Bool.{not, _&&_}
 use mathlib.Core.List.{List, [], _∷_, _++_}
-use mathlib.Core.Bool.{Bool, true, false, not, _&&_}
+use mathlib.Core.Logic.{inl, inr}
 use mathlib.Core.Option.{Option, none, some}
+use mathlib.Core.Path.{_≡_, refl, sym, ap, subst, _∙_}
 use native.Mathlib.Omega.{arith}
-use lib.ListN.{length, replicate, length-replicate}
 use lib.Dec.{eqb}
+use lib.ListN.{length, replicate, length-replicate}
 use borrow.Author.Tests.{eq-eqb, ne-eqb}
 use Rattle.lists.specs.Tests.{dec-eq}
 use Rattle.lists.specs.Member.{Mem}
 use Rattle.graph.specs.Report.{Report, accepted, refused}
 use Rattle.graph.specs.Check.{Check, _gives_, firstRefusal, graphChecks, lengthCheck}
 use Rattle.graph.specs.CheckLaws.{Passed, passed, passed-inside, refused-first, passed-first, first-refuses, first-passes, all-passed, answered-refused, answered-accepted, written-refused, written-accepted}
-use Rattle.graph.specs.Edges.{edgeCount, firstEnd, secondEnd, farEnd, neighbors}
+use Rattle.graph.specs.Edges.{edgeCount, firstEnd, secondEnd, neighbors}
 use Rattle.graph.specs.EdgeLaws.{far-first}
 use Rattle.graph.specs.NeighborLaws.{edge-neighbor}
-use Rattle.graph.specs.Color.{Outcome, colored, daysOf}
-use Rattle.graph.specs.Colored.{noColor, colorOf}
-use Rattle.graph.specs.ColoredLaws.{color-replicate, color-outside}
+use Rattle.graph.specs.Color.{colored, daysOf}
+use Rattle.graph.specs.Colored.{noColor}
+use Rattle.graph.specs.ColoredLaws.{color-replicate}
 use Rattle.greedy.specs.Greedy.{Neighborhood, Greedy}
 use Rattle.greedy.specs.GreedyLaws.{node-neighborhood}
 use Rattle.greedy.specs.Call.{Rule, nodeChecks, greedyNodes, greedyNodesPlain, HolidayLookup, PageGrid}

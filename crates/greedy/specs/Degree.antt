@@ -1,9 +1,9 @@
 -- Strategy Degree.
 use Prim.Native.Nat.{ℕ}
-use mathlib.Core.List.{List, [], _∷_}
 use mathlib.Core.Bool.{cond}
-use lib.ListN.{length}
+use mathlib.Core.List.{List, [], _∷_}
 use lib.Dec.{ltb}
+use lib.ListN.{length}
 use Rattle.greedy.specs.Turn.{uncolored, colorItem}
 
 module _ (nb : ℕ → List ℕ) where

@@ -1,21 +1,20 @@
 -- The neighbours of a graph's nodes, and how great an item's colour can be.
 use Prim.Native.Nat.{ℕ, _≤_, _<_}
-use mathlib.Core.Path.{_≡_, refl, subst}
-use mathlib.Core.Logic.{_⊎_, inl, inr, _≢_}
-use mathlib.Core.List.{List, [], _∷_, map}
-use mathlib.Core.Bool.{Bool, true, false, not}
+use mathlib.Core.List.{List, _∷_, map}
+use mathlib.Core.Logic.{inl, inr, _≢_}
+use mathlib.Core.Path.{_≡_, subst}
 use native.Mathlib.Omega.{arith}
-use lib.ListN.{length, length-map}
 use lib.Dec.{eqb}
-use borrow.Author.Tests.{eqb-true, ne-eqb}
+use lib.ListN.{length-map}
+use borrow.Author.Tests.{ne-eqb}
 use Rattle.lists.specs.Tests.{by-test}
 use Rattle.lists.specs.Member.{Mem, mem-map, cover-bound}
 use Rattle.lists.specs.Different.{distinct, different, member-distinct}
 use Rattle.graph.specs.Colored.{noColor, colorOf}
-use Rattle.greedy.specs.Turn.{others}
 use Rattle.graph.specs.Edges.{edgeCount, neighbors}
 use Rattle.graph.specs.CheckLaws.{Passed}
 use Rattle.graph.specs.NeighborLaws.{neighbor-symmetric, neighbor-times, passed-neighbor, passed-degree}
+use Rattle.greedy.specs.Turn.{others}
 use Rattle.greedy.specs.Greedy.{Neighborhood, Greedy}
 
 pub node-neighborhood : (n : ℕ) (ends : List ℕ) → Passed n ends → Neighborhood (neighbors ends (edgeCount ends)) n

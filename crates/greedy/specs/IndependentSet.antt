@@ -1,9 +1,9 @@
 -- Strategy IndependentSet.
 use Prim.Native.Nat.{ℕ, zero, suc, _-_}
-use mathlib.Core.List.{List, [], _∷_, _++_}
 use mathlib.Core.Bool.{cond}
-use lib.ListN.{length, getD, set, take}
+use mathlib.Core.List.{List, [], _∷_, _++_}
 use lib.Dec.{eqb}
+use lib.ListN.{length, getD, set, take}
 use Rattle.lists.specs.Member.{elem}
 use Rattle.graph.specs.Colored.{colorOf}
 use Rattle.greedy.specs.Turn.{uncolored}

@@ -1,13 +1,12 @@
 -- Strategy Saturation: the port's choice, and which runs are legal.
 use Prim.Native.Nat.{ℕ, zero, suc}
+use mathlib.Core.Bool.{Bool, true, not, _&&_, _||_, cond}
 use mathlib.Core.List.{List, [], _∷_, map}
-use mathlib.Core.Bool.{Bool, true, false, not, _&&_, _||_, cond}
-use lib.ListN.{length, set}
 use lib.Dec.{eqb, ltb}
+use lib.ListN.{set}
 use Rattle.lists.specs.Member.{elem}
 use Rattle.lists.specs.Equal.{equal}
 use Rattle.lists.specs.Different.{different}
-use Rattle.graph.specs.Edges.{keep}
 use Rattle.graph.specs.Colored.{colorOf, isColored, coloredAmong, smallestFreeAt}
 use Rattle.greedy.specs.Turn.{uncolored, colorItem}
 

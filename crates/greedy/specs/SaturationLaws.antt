@@ -1,15 +1,15 @@
 -- Laws of Saturation: the port's run is legal, and what holds of its colours.
-use Prim.Native.Nat.{ℕ, zero, suc, _+_, _≤_, _<_}
-use mathlib.Core.Path.{_≡_, refl, sym, ap, subst, _∙_}
-use mathlib.Core.Logic.{_⊎_, inl, inr, _≢_}
+use Prim.Native.Nat.{ℕ, zero, suc, _≤_, _<_}
+use mathlib.Core.Bool.{true, false, not, true≢false}
 use mathlib.Core.List.{List, [], _∷_}
-use mathlib.Core.Bool.{Bool, true, false, not, _&&_, _||_, cond, true≢false}
+use mathlib.Core.Logic.{_⊎_, inl, inr, _≢_}
+use mathlib.Core.Path.{_≡_, refl, sym, ap, subst, _∙_}
 use native.Mathlib.Omega.{arith}
-use lib.ListN.{length, set}
 use lib.Dec.{eqb, ltb}
-use borrow.Author.Tests.{ltb-true, ltb-false, eqb-true, eqb-false, eq-eqb, lt-ltb}
-use Rattle.lists.specs.Tests.{by-test, dec-eq, and-true, true-and, or-true, or-false, true-or}
-use Rattle.lists.specs.Member.{Mem, elem, mem-elem}
+use lib.ListN.{length}
+use borrow.Author.Tests.{ltb-true, eqb-true, eq-eqb, lt-ltb}
+use Rattle.lists.specs.Tests.{by-test, and-true, true-and, or-true, true-or}
+use Rattle.lists.specs.Member.{Mem, mem-elem}
 use Rattle.lists.specs.Equal.{equal, equal-self}
 use Rattle.graph.specs.Colored.{noColor, colorOf, smallestFreeAt}
 use Rattle.greedy.specs.Turn.{uncolored, colorItem}

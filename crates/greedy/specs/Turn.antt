@@ -1,10 +1,10 @@
 -- What the strategies share. Items are numbered from 0, and `nb` gives each item's neighbours in incidence order: for the nodes of a graph
 -- `neighbors` of its edge list, for its edges that of the line list.
 use Prim.Native.Nat.{ℕ, zero, suc}
-use mathlib.Core.List.{List, [], _∷_, _++_}
 use mathlib.Core.Bool.{not}
-use lib.ListN.{set}
+use mathlib.Core.List.{List, [], _∷_, _++_}
 use lib.Dec.{eqb}
+use lib.ListN.{set}
 use Rattle.graph.specs.Edges.{keep}
 use Rattle.graph.specs.Colored.{isColored, smallestFreeAt}
 

@@ -1,17 +1,17 @@
 -- Laws of the items without a colour.
 use Prim.Native.Nat.{ℕ, zero, suc, _+_, _≤_, _<_}
-use mathlib.Core.Path.{_≡_, refl, sym, ap, _∙_}
-use mathlib.Core.Logic.{_⊎_, inl, inr, _≢_}
+use mathlib.Core.Bool.{not}
 use mathlib.Core.List.{List, [], _∷_, _++_}
-use mathlib.Core.Bool.{Bool, true, false, not}
-use native.Mathlib.Omega.{arith}
+use mathlib.Core.Logic.{inl, inr, _≢_}
+use mathlib.Core.Path.{_≡_, sym, ap, _∙_}
 use native.Mathlib.Nat.{not-suc-le-zero}
+use native.Mathlib.Omega.{arith}
 use lib.ListN.{length, set}
 use Rattle.lists.specs.Tests.{by-test, dec-eq}
 use Rattle.lists.specs.Member.{Mem, Nodup, mem-append, mem-append-left, mem-append-right, nodup-append, nodup-bound, pigeonhole}
 use Rattle.graph.specs.Edges.{keep}
 use Rattle.graph.specs.Colored.{noColor, colorOf, isColored}
-use Rattle.graph.specs.ColoredLaws.{is-colored-true, is-colored-false, uncolored-false, colored-inside, color-set-same, color-set-other}
+use Rattle.graph.specs.ColoredLaws.{is-colored-false, uncolored-false, color-set-same, color-set-other}
 use Rattle.greedy.specs.Turn.{uncolored}
 
 -- One item more, with or without a colour.

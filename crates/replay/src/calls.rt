@@ -6,6 +6,7 @@ use crate::names::Name;
 use crate::output::{put, put_all, put_bytes, put_list, put_part, put_report};
 
 use graph::{Coloring, IncidenceAnswer, NodeIndex, edges_at};
+use greedy::ColoringStrategy;
 
 fn put_coloring(text: &mut [u8], waiting: usize, name: &[u8], answer: Coloring) -> usize {
     match answer {
@@ -56,6 +57,48 @@ fn call_two_color(text: &mut [u8], waiting: usize, n: usize, ends: &[u16], line:
     put(text, end, b'\n')
 }
 
+fn call_node_color(text: &mut [u8], waiting: usize, n: usize, ends: &[u16], line: Line, list: &mut [u16]) -> usize {
+    let c = cut(line.first, list);
+    let colors = &mut list[..c];
+    lend(colors);
+    let answer = greedy_color::greedy_node_color(n, ends, colors);
+    let end = put_coloring(text, waiting, b"greedy_node_color", answer);
+    let end = put_list(text, end, colors);
+    put(text, end, b'\n')
+}
+
+fn call_node_color_preset(text: &mut [u8], waiting: usize, n: usize, ends: &[u16], presets: &[u16], line: Line, list: &mut [u16]) -> usize {
+    let c = cut(line.first, list);
+    let colors = &mut list[..c];
+    lend(colors);
+    let answer = greedy_color::greedy_node_color_with_preset_colors(n, ends, presets, colors);
+    let end = put_coloring(text, waiting, b"greedy_node_color_with_preset_colors", answer);
+    let end = put_list(text, end, colors);
+    put(text, end, b'\n')
+}
+
+// 0 Degree, 1 Saturation, 2 IndependentSet; the cases have no other.
+fn strategy_of(number: usize) -> ColoringStrategy {
+    if number == 0 {
+        return ColoringStrategy::Degree;
+    }
+    if number == 1 {
+        return ColoringStrategy::Saturation;
+    }
+    ColoringStrategy::IndependentSet
+}
+
+fn call_node_color_by(text: &mut [u8], waiting: usize, n: usize, ends: &[u16], presets: &[u16], line: Line, list: &mut [u16]) -> usize {
+    let c = cut(line.second, list);
+    let colors = &mut list[..c];
+    lend(colors);
+    let strategy = strategy_of(line.first);
+    let answer = greedy_color::greedy_node_color_with_coloring_strategy(n, ends, presets, strategy, colors);
+    let end = put_coloring(text, waiting, b"greedy_node_color_with_coloring_strategy", answer);
+    let end = put_list(text, end, colors);
+    put(text, end, b'\n')
+}
+
 fn call_misra_gries(text: &mut [u8], waiting: usize, n: usize, ends: &[u16], line: Line, list: &mut [u16]) -> usize {
     let c = cut(line.first, list);
     let colors = &mut list[..c];
@@ -66,7 +109,7 @@ fn call_misra_gries(text: &mut [u8], waiting: usize, n: usize, ends: &[u16], lin
     put(text, end, b'\n')
 }
 
-// The line's call; a line that is none prints nothing. No call takes the presets yet.
+// The line's call; a line that is none prints nothing.
 pub fn call(
     text: &mut [u8],
     waiting: usize,
@@ -81,11 +124,16 @@ pub fn call(
     let n = sizes.nodes;
     let m = cut(sizes.ends, ends);
     let ends = &ends[..m];
+    let p = cut(sizes.presets, presets);
+    let presets = &presets[..p];
     let name = line.name;
     match name {
         Name::Incidence => call_incidence(text, waiting, n, ends, line, list, entries),
         Name::EdgesAt => call_edges_at(text, waiting, line, list, entries),
         Name::TwoColor => call_two_color(text, waiting, n, ends, line, bytes),
+        Name::GreedyNodeColor => call_node_color(text, waiting, n, ends, line, list),
+        Name::GreedyNodeColorWithPresetColors => call_node_color_preset(text, waiting, n, ends, presets, line, list),
+        Name::GreedyNodeColorWithColoringStrategy => call_node_color_by(text, waiting, n, ends, presets, line, list),
         Name::MisraGriesEdgeColor => call_misra_gries(text, waiting, n, ends, line, list),
         _ => waiting,
     }

@@ -11,6 +11,9 @@ pub enum Name {
     Incidence,
     EdgesAt,
     TwoColor,
+    GreedyNodeColor,
+    GreedyNodeColorWithPresetColors,
+    GreedyNodeColorWithColoringStrategy,
     MisraGriesEdgeColor,
     Unknown,
 }
@@ -52,6 +55,15 @@ fn name_of(word: &[u8]) -> Name {
     }
     if same(word, b"two_color") {
         return Name::TwoColor;
+    }
+    if same(word, b"greedy_node_color") {
+        return Name::GreedyNodeColor;
+    }
+    if same(word, b"greedy_node_color_with_preset_colors") {
+        return Name::GreedyNodeColorWithPresetColors;
+    }
+    if same(word, b"greedy_node_color_with_coloring_strategy") {
+        return Name::GreedyNodeColorWithColoringStrategy;
     }
     if same(word, b"misra_gries_edge_color") {
         return Name::MisraGriesEdgeColor;

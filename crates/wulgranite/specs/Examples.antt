@@ -1,8 +1,8 @@
 -- The proof sheet: each P case as a row, as 01 prints it, and one fact that holds them against the definitions.
 use Prim.Native.Nat.{ℕ}
-use mathlib.Core.Path.{_≡_, refl}
-use mathlib.Core.List.{List, [], _∷_, _++_, map}
 use mathlib.Core.Bool.{Bool, true, false, _&&_, xor}
+use mathlib.Core.List.{List, [], _∷_}
+use mathlib.Core.Path.{_≡_, refl}
 use lib.Dec.{eqb}
 use Rattle.lists.specs.Member.{elem}
 use Rattle.lists.specs.Equal.{equal}

@@ -1,24 +1,11 @@
+-- `check_nodes` meets its contract: each answer's tests say which check refuses, or that none does.
+use borrow.Author.Needs.{needs}
 use Rattle.greedy.specs.CallLaws.{check-refuses, colors-wrong, presets-wrong, checks-pass}
-use borrow.Author.Needs.{needs}
-use native.Mathlib.Omega.{arith}
-use borrow.Author.Needs.{needs}
 use Rattle.greedy.proofs.check_nodes.Statement.{statement}
 use Rattle.greedy.proofs.check_nodes.Tie as tie
-use Rattle.greedy.proofs.check_nodes.Reads as reads
-use Rattle.greedy.proofs.check_nodes.Lts as lts
-use Rattle.graph.proofs.check_graph.Reads as check-graph-reads
-
-check-graph-requires : tie.Need-check-graph-requires
-check-graph-requires c κs = search needs
-
-enum-known-refusal : tie.Need-enum-known-refusal
-enum-known-refusal c = search needs
 
 returns : tie.Need-returns
 returns c = check-refuses _ _ _ _ _ _ (c .before .before .before .check-graph .ensures) (c .before .refusal .given .1)
-
-enum-known-graph : tie.Need-enum-known-graph
-enum-known-graph c = search needs
 
 returns-2 : tie.Need-returns-2
 returns-2 c = colors-wrong _ _ _ _ _ _ (c .before .before .before .before .before .check-graph .ensures) (c .before .before .before .graph .given .1) (c .if1 .taken)
@@ -33,10 +20,9 @@ pub check-nodes-spec : {M : Type 1} → statement M
 check-nodes-spec =
     tie.close
     (tie.spec
-    check-graph-requires
-    enum-known-refusal
+    (λ c κs. search needs) (λ c. search needs)
     returns
-    enum-known-graph
+    (λ c. search needs)
     returns-2
     returns-3
     returns-4)

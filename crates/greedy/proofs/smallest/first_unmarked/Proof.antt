@@ -1,13 +1,12 @@
-use lib.ListN.{length, getD}
-use mathlib.Core.Logic.{_≢_}
+-- `first_unmarked` meets its contract. The invariant: every place passed is marked.
 use Prim.Native.Nat.{ℕ, _≤_, _<_, _-_}
-use Rattle.greedy.specs.Marks.{first-unmarked-begin, first-unmarked-next}
-use borrow.Author.Needs.{needs}
+use mathlib.Core.Logic.{_≢_}
 use native.Mathlib.Omega.{arith}
+use lib.ListN.{length, getD}
+use borrow.Author.Needs.{needs}
+use Rattle.greedy.specs.Marks.{first-unmarked-begin, first-unmarked-next}
 use Rattle.greedy.proofs.smallest.first_unmarked.Statement.{statement}
 use Rattle.greedy.proofs.smallest.first_unmarked.Tie as tie
-use Rattle.greedy.proofs.smallest.first_unmarked.Reads as reads
-use Rattle.greedy.proofs.smallest.first_unmarked.Lts as lts
 
 abbrev Inv-loop : tie.InvT-loop
 Inv-loop marks c₀ c = (c ≤ length marks) × ((b : ℕ) → b < c → getD marks b 0 ≢ 0)
@@ -18,17 +17,8 @@ abbrev μ-loop : tie.MeasureT-loop
 loop-holds : tie.Need-loop-holds Inv-loop μ-loop
 loop-holds c = (omega arith, first-unmarked-begin (c .args .marks .now))
 
-shared-slice-read-if1 : tie.Need-shared-slice-read-if1 Inv-loop μ-loop
-shared-slice-read-if1 c = search needs
-
 returns : tie.Need-returns Inv-loop μ-loop
 returns c = record { inside = c .before .before .before .loop .inv .0; before = c .before .before .before .loop .inv .1; here = λ h. c .if1 .taken }
-
-add-c : tie.Need-add-c Inv-loop μ-loop
-add-c c = search needs
-
-loop-less : tie.Need-loop-less Inv-loop μ-loop
-loop-less c = search needs
 
 loop-again : tie.Need-loop-again Inv-loop μ-loop
 loop-again c = (omega arith, first-unmarked-next (c .before .before .before .before .args .marks .now) _ (c .before .before .before .loop .inv .1) (c .if1 .left))
@@ -43,9 +33,8 @@ first-unmarked-spec =
     Inv-loop
     μ-loop
     loop-holds
-    shared-slice-read-if1
+    (λ c. search needs)
     returns
-    add-c
-    loop-less
+    (λ c. search needs) (λ c. search needs)
     loop-again
     returns-2)
