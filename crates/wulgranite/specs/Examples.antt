@@ -88,6 +88,8 @@ rows =
     ∷ record { call = greedy-node-color-with-preset-colors; n = 3; ends = 0 ∷ 1 ∷ 0 ∷ 2 ∷ []; presets = 1 ∷ 65535 ∷ 65535 ∷ []; lent = 9 ∷ 9 ∷ 9 ∷ []; report = accepted 2; colors = 1 ∷ 0 ∷ 0 ∷ [] }
     -- P8: (0,1) presets 4,4: 4,4
     ∷ record { call = greedy-node-color-with-coloring-strategy Degree; n = 2; ends = 0 ∷ 1 ∷ []; presets = 4 ∷ 4 ∷ []; lent = 9 ∷ 9 ∷ []; report = accepted 5; colors = 4 ∷ 4 ∷ [] }
+    -- (0,1),(1,2),(2,3) by Degree: 1,0,1,0; sees an unstable order, and degrees rising
+    ∷ record { call = greedy-node-color; n = 4; ends = 0 ∷ 1 ∷ 1 ∷ 2 ∷ 2 ∷ 3 ∷ []; presets = []; lent = 9 ∷ 9 ∷ 9 ∷ 9 ∷ []; report = accepted 2; colors = 1 ∷ 0 ∷ 1 ∷ 0 ∷ [] }
     -- P9: Saturation (0,1),(1,2),(2,3): 1,0,1,0
     ∷ record { call = greedy-node-color-with-coloring-strategy Saturation; n = 4; ends = 0 ∷ 1 ∷ 1 ∷ 2 ∷ 2 ∷ 3 ∷ []; presets = 65535 ∷ 65535 ∷ 65535 ∷ 65535 ∷ []; lent = 9 ∷ 9 ∷ 9 ∷ 9 ∷ []; report = accepted 2; colors = 1 ∷ 0 ∷ 1 ∷ 0 ∷ [] }
     -- P9, its other half: 0,1,0,1 is legal too, in the order 2,1,0,3

@@ -1,0 +1,2 @@
+-- The strategies' colours are greedy.
+pub mod Rules
