@@ -10,6 +10,7 @@ pub mod CountLaws
 pub mod FillLaws
 pub mod IncidenceLaws
 pub mod Stretch
+pub mod Front
 pub mod Walk
 pub mod WalkLaws
 pub mod StretchLaws

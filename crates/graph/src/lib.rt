@@ -15,6 +15,7 @@ pub use edges::edges_at;
 pub use edges::end_at;
 pub use edges::far_end;
 pub use table::incidence;
+pub use table::incidence_front;
 pub use walk::EdgeWalk;
 pub use walk::WalkStep;
 pub use walk::edge_at;
