@@ -15,20 +15,11 @@ use graph::NodeIndex;
 use graph::copy_colors;
 use graph::days_of;
 use graph::edges_at;
-use graph::incidence;
+use graph::incidence_front;
 use greedy::check_nodes;
 use greedy::smallest_color;
 
 mod order;
-
-// The incidence table, at the front of both slices.
-fn make_table(n: usize, ends: &[u16], starts: &mut [u16], entries: &mut [u16])
-    requires { ⌜ Passed n (now ends) ⌝ }
-    requires { ⌜ (length (now starts) ≡ 513) × (length (now entries) ≡ 8192) ⌝ }
-    ensures { λ _. ⌜ Table (now (ends .entry)) n (now (starts .exit)) (now (entries .exit)) ⌝ }
-{
-    incidence(n, ends, &mut starts[..n + 1], &mut entries[..ends.len()]);
-}
 
 // How many edges stand at each node.
 fn node_degrees(n: usize, starts: &[u16], entries: &[u16], degrees: &mut [u16])
@@ -70,7 +61,7 @@ fn color_checked(n: usize, ends: &[u16], presets: &[u16], colors: &mut [u16])
     let mut degrees = [0u16; 512];
     let mut counts = [0u16; 4097];
     let mut order = [0u16; 512];
-    make_table(n, ends, &mut starts, &mut entries);
+    incidence_front(n, ends, &mut starts, &mut entries);
     node_degrees(n, &starts, &entries, &mut degrees);
     let count = order::falling_order(&degrees, presets, &mut counts, &mut order);
     copy_colors(presets, colors);

@@ -17,7 +17,7 @@ use checks::has_loop;
 use edge_table::EdgeTable;
 use graph::check_graph;
 use graph::copy_colors;
-use graph::incidence;
+use graph::incidence_front;
 use graph::Checked;
 use graph::Color;
 use graph::Coloring;
@@ -42,15 +42,6 @@ fn days_of_tally(tally: Tally) -> usize
         return 0;
     }
     tally.greatest as usize + 1
-}
-
-// The table at the front of the lent slices.
-fn make_table(n: usize, ends: &[u16], starts: &mut [u16], entries: &mut [u16])
-    requires { ⌜ Passed n (now ends) ⌝ }
-    requires { ⌜ (length (now starts) ≡ 513) × (length (now entries) ≡ 8192) ⌝ }
-    ensures { λ _. ⌜ Table (now (ends .entry)) n (now (starts .exit)) (now (entries .exit)) ⌝ }
-{
-    incidence(n, ends, &mut starts[..n + 1], &mut entries[..ends.len()]);
 }
 
 // The run on an admitted list, its colours copied out.
@@ -81,7 +72,7 @@ fn color_checked(n: usize, ends: &[u16], colors: &mut [u16]) -> Coloring
 {
     let mut starts = [0u16; 513];
     let mut entries = [0u16; 8192];
-    make_table(n, ends, &mut starts, &mut entries);
+    incidence_front(n, ends, &mut starts, &mut entries);
     if has_double_edge(n, ends, &starts, &entries) {
         return Coloring::Refused(Refusal::DoubleEdge);
     }

@@ -9,12 +9,12 @@ use Rattle.degree.proofs.color_checked.Statement.{statement}
 use Rattle.degree.proofs.color_checked.Tie as tie
 
 node-degrees-requires : tie.Need-node-degrees-requires
-node-degrees-requires c κs = let p = c .before .before .before .before .before .before .before .before .before .before .before .pre .0 in ((omega (arith, p .nodes), p .nodes), stretch-few _ _ _ _ p (c .before .before .before .before .before .make-table .ensures))
+node-degrees-requires c κs = let p = c .before .before .before .before .before .before .before .before .before .before .before .pre .0 in ((omega (arith, p .nodes), p .nodes), stretch-few _ _ _ _ p (c .before .before .before .before .before .incidence-front .ensures .1 .1 p (omega (arith, p .nodes)) (omega (arith, p .even, p .edges))))
 
 falling-order-requires : tie.Need-falling-order-requires
 falling-order-requires c κs =
     let p = c .before .before .before .before .before .before .before .before .before .before .before .before .before .before .before .before .pre in
-    (nodes-countable _ _ _ _ (p .0) (c .before .before .before .before .before .before .before .before .before .before .make-table .ensures) _ _ (c .before .before .before .before .node-degrees .ensures) (p .1 .0) (omega (arith, p .0 .nodes, c .before .before .before .before .node-degrees .kept .1 .1 .1 .0)), (zeros-at 4097, omega (arith, p .0 .nodes, p .1 .0)))
+    (nodes-countable _ _ _ _ (p .0) (c .before .before .before .before .before .before .before .before .before .before .incidence-front .ensures .1 .1 (p .0) (omega (arith, p .0 .nodes)) (omega (arith, p .0 .even, p .0 .edges))) _ _ (c .before .before .before .before .node-degrees .ensures) (p .1 .0) (omega (arith, p .0 .nodes, c .before .before .before .before .node-degrees .kept .1 .1 .1 .0)), (zeros-at 4097, omega (arith, p .0 .nodes, p .1 .0)))
 
 slice-aggregate-color-in-order-3 : tie.Need-slice-aggregate-color-in-order-3
 slice-aggregate-color-in-order-3 c = let f = c .before .before .before .before .before .before .before .before .before .falling-order in sym (length-take-le _ _ (omega (arith, f .ensures .0, f .kept .1 .1 .1 .0)))
@@ -22,14 +22,14 @@ slice-aggregate-color-in-order-3 c = let f = c .before .before .before .before .
 color-in-order-requires : tie.Need-color-in-order-requires
 color-in-order-requires c κs =
     let p = c .before .before .before .before .before .before .before .before .before .before .before .before .before .before .before .before .before .before .before .before .before .before .before .before .before .before .before .pre in
-    let table = c .before .before .before .before .before .before .before .before .before .before .before .before .before .before .before .before .before .before .before .before .before .make-table .ensures in
+    let table = c .before .before .before .before .before .before .before .before .before .before .before .before .before .before .before .before .before .before .before .before .before .incidence-front .ensures .1 .1 (p .0) (omega (arith, p .0 .nodes)) (omega (arith, p .0 .even, p .0 .edges)) in
     let order = order-found _ _ _ _ (p .0) table _ _ (c .before .before .before .before .before .before .before .before .before .before .before .before .before .before .before .node-degrees .ensures) (p .1 .0) _ (c .before .before .before .before .before .before .before .before .before .before .falling-order .ensures .1) in
     turns-ready _ _ _ _ _ _ (c .before .before .before .before .before .before .copy-colors .last .1 .0) (p .0) table order (c .before .before .before .before .before .before .copy-colors .kept .1 .0 ∙ p .1 .1)
 
 returns : tie.Need-returns
 returns c =
     let p = c .before .before .before .before .before .before .before .before .before .before .before .before .before .before .before .before .before .before .before .before .before .before .before .before .before .before .before .before .before .before .pre in
-    let table = c .before .before .before .before .before .before .before .before .before .before .before .before .before .before .before .before .before .before .before .before .before .before .before .before .make-table .ensures in
+    let table = c .before .before .before .before .before .before .before .before .before .before .before .before .before .before .before .before .before .before .before .before .before .before .before .before .incidence-front .ensures .1 .1 (p .0) (omega (arith, p .0 .nodes)) (omega (arith, p .0 .even, p .0 .edges)) in
     let order = order-found _ _ _ _ (p .0) table _ _ (c .before .before .before .before .before .before .before .before .before .before .before .before .before .before .before .before .before .before .node-degrees .ensures) (p .1 .0) _ (c .before .before .before .before .before .before .before .before .before .before .before .before .before .falling-order .ensures .1) in
     degree-colored _ _ _ _ _ _ _ (p .1 .0) (p .1 .1) order (c .before .before .before .before .before .before .before .before .before .copy-colors .ensures) (c .before .before .color-in-order .ensures)
 
