@@ -2,7 +2,7 @@
 use Prim.Native.Nat.{ℕ, _≤_, _<_}
 use mathlib.Core.List.{List, _∷_, map}
 use mathlib.Core.Logic.{inl, inr, _≢_}
-use mathlib.Core.Path.{_≡_, subst}
+use mathlib.Core.Path.{_≡_, sym, subst}
 use native.Mathlib.Omega.{arith}
 use lib.Dec.{eqb}
 use lib.ListN.{length-map}
@@ -12,8 +12,13 @@ use Rattle.lists.specs.Member.{Mem, mem-map, cover-bound}
 use Rattle.lists.specs.Different.{distinct, different, member-distinct}
 use Rattle.graph.specs.Colored.{noColor, colorOf}
 use Rattle.graph.specs.Edges.{edgeCount, neighbors}
-use Rattle.graph.specs.CheckLaws.{Passed}
-use Rattle.graph.specs.NeighborLaws.{neighbor-symmetric, neighbor-times, passed-neighbor, passed-degree}
+use Rattle.graph.specs.CheckLaws.{Passed, passed-inside}
+use Rattle.graph.specs.EdgeLaws.{At}
+use Rattle.line_graph.specs.LineList.{linePairs}
+use Rattle.line_graph.specs.LineNeighbors.{lineNeighbors}
+use Rattle.line_graph.specs.LineNeighborLaws.{line-neighbors, pair-ends-inside, member-line-neighbor, line-neighbor-bound}
+use Rattle.greedy.specs.Call.{edgeNeighbors}
+use Rattle.graph.specs.NeighborLaws.{neighbor-inside, neighbor-symmetric, neighbor-times, passed-neighbor, passed-degree}
 use Rattle.greedy.specs.Turn.{others}
 use Rattle.greedy.specs.Greedy.{Neighborhood, Greedy}
 
@@ -25,6 +30,27 @@ node-neighborhood n ends p = record {
   times = λ v w h k d. neighbor-times ends (edgeCount ends) v w d;
   few = λ v h. omega (arith, passed-degree n ends p v);
 }
+
+-- The neighbours of its edges: those that share an end.
+pub edge-neighborhood : (n : ℕ) (ends : List ℕ) → Passed n ends → Neighborhood (edgeNeighbors n ends) (edgeCount ends)
+unfolding edgeNeighbors
+edge-neighborhood n ends p =
+    let m = edgeCount ends in
+    let pairs = linePairs ends m n in
+    record {
+      items = omega (arith, p .edges);
+      inside = λ v w h q. neighbor-inside pairs (edgeCount pairs) m v w (pair-ends-inside ends m n) q;
+      symmetric = λ v w h q. neighbor-symmetric pairs (edgeCount pairs) v w q;
+      times = λ v w h k d. neighbor-times pairs (edgeCount pairs) v w d;
+      few = λ v h. rw (line-neighbors ends m n v (passed-inside n ends p) h) (omega (arith, line-neighbor-bound ends m v h, p .edges));
+    }
+
+pub edge-neighbors : (n : ℕ) (ends : List ℕ) → Passed n ends → (k : ℕ) → k < edgeCount ends → edgeNeighbors n ends k ≡ lineNeighbors ends (edgeCount ends) k
+unfolding edgeNeighbors
+edge-neighbors n ends p k h = line-neighbors ends (edgeCount ends) n k (passed-inside n ends p) h
+
+pub sharing-neighbor : (n : ℕ) (ends : List ℕ) → Passed n ends → (j k v : ℕ) → j < edgeCount ends → k < edgeCount ends → j ≢ k → At ends j v → At ends k v → Mem k (edgeNeighbors n ends j)
+sharing-neighbor n ends passed j k v h g d p q = rw (edge-neighbors n ends passed j h) (member-line-neighbor ends (edgeCount ends) j k v h g (λ e. d (sym e)) p q)
 
 other-member : (v w : ℕ) (ws : List ℕ) → Mem w ws → w ≢ v → Mem w (others v ws)
 unfolding others

@@ -1,9 +1,7 @@
 // Greedy colouring: the strategies, the checks of node colouring, and the smallest free colour at a node.
 ghost use mathlib.Core.Path.{_≡_};
-ghost use mathlib.Core.List.{map};
-ghost use lib.ListN.{length, replicate};
 ghost use Rattle.graph.specs.Report.{reportOfChecked};
-ghost use Rattle.greedy.specs.Call.{checkNodes};
+ghost use Rattle.greedy.specs.Call.{checkItems, checkNodes, checkEdges};
 use graph::Checked;
 use graph::Refusal;
 use graph::check_graph;
@@ -19,22 +17,36 @@ pub enum ColoringStrategy {
     IndependentSet,
 }
 
-// The checks of node colouring, given how many presets and colours are lent.
-pub fn check_nodes(n: usize, ends: &[u16], presets: usize, colors: usize) -> Checked
-    ensures { λ r. ⌜ reportOfChecked r ≡ checkNodes n (now (ends .entry)) presets colors ⌝ }
+// The checks, given how many items, presets and colours there are.
+fn check_items(n: usize, ends: &[u16], items: usize, presets: usize, colors: usize) -> Checked
+    ensures { λ r. ⌜ reportOfChecked r ≡ checkItems n (now (ends .entry)) items presets colors ⌝ }
 {
     match check_graph(n, ends) {
         Checked::Refused(refusal) => {
             return Checked::Refused(refusal);
         }
         Checked::Accepted(graph) => {
-            if colors != graph.nodes {
+            if colors != items {
                 return Checked::Refused(Refusal::WrongLength);
             }
-            if presets != graph.nodes {
+            if presets != items {
                 return Checked::Refused(Refusal::WrongLength);
             }
             Checked::Accepted(graph)
         }
     }
+}
+
+// The checks of node colouring, given how many presets and colours are lent.
+pub fn check_nodes(n: usize, ends: &[u16], presets: usize, colors: usize) -> Checked
+    ensures { λ r. ⌜ reportOfChecked r ≡ checkNodes n (now (ends .entry)) presets colors ⌝ }
+{
+    check_items(n, ends, n, presets, colors)
+}
+
+// The same of edge colouring.
+pub fn check_edges(n: usize, ends: &[u16], presets: usize, colors: usize) -> Checked
+    ensures { λ r. ⌜ reportOfChecked r ≡ checkEdges n (now (ends .entry)) presets colors ⌝ }
+{
+    check_items(n, ends, ends.len() / 2, presets, colors)
 }

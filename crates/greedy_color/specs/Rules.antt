@@ -1,8 +1,7 @@
 -- Each strategy's colours are greedy; and the call's answers, taken apart.
-use Prim.Native.Nat.{ℕ, _≤_, _<_}
-use mathlib.Core.Path.{_≡_, refl, sym, ap, _∙_}
+use Prim.Native.Nat.{ℕ, _≤_}
 use mathlib.Core.List.{List, []}
-use native.Mathlib.Omega.{arith}
+use mathlib.Core.Path.{_≡_, sym, ap, _∙_}
 use lib.ListN.{length, take, replicate, length-replicate}
 use lib.Seq.{length-take-le}
 use Rattle.lists.specs.Parts.{take-replicate}
@@ -13,11 +12,16 @@ use Rattle.greedy.specs.TurnLaws.{in-order-greedy}
 use Rattle.greedy.specs.declared.ColoringStrategy.{ColoringStrategy}
 use Rattle.greedy.specs.Call.{Rule, ruleOf, greedyNodes, greedyNodesPlain, HolidayLookup, PageGrid}
 use Rattle.greedy.specs.CallerLaws.{GreedyRule, holiday-lookup, page-grid, plain-same, grid-without-presets}
+use Rattle.greedy.specs.IndependentSet.{independentSetColors}
+use Rattle.independent_set.specs.IndependentSetLaws.{independent-set-greedy}
 use Rattle.degree.specs.OrderLaws.{order-member, member-order, order-nodup}
 
 pub degree-greedy : GreedyRule degreeColors
 unfolding degreeColors
 degree-greedy nb n hood presets l = in-order-greedy nb n hood presets (degreeOrder nb n presets) l (order-nodup nb n presets) (order-member nb n presets) (member-order nb n presets)
+
+pub independent-set-rule : GreedyRule independentSetColors
+independent-set-rule nb n hood presets l = independent-set-greedy nb n presets hood l
 
 -- ---- a call with presets
 

@@ -96,6 +96,8 @@ rows =
     ∷ record { call = saturation-run (2 ∷ 1 ∷ 0 ∷ 3 ∷ []); n = 4; ends = 0 ∷ 1 ∷ 1 ∷ 2 ∷ 2 ∷ 3 ∷ []; presets = 65535 ∷ 65535 ∷ 65535 ∷ 65535 ∷ []; lent = []; report = accepted 2; colors = 0 ∷ 1 ∷ 0 ∷ 1 ∷ [] }
     -- P10: IndependentSet, same edges: 0,1,2,0; sees a removal that keeps the order
     ∷ record { call = greedy-node-color-with-coloring-strategy IndependentSet; n = 4; ends = 0 ∷ 1 ∷ 1 ∷ 2 ∷ 2 ∷ 3 ∷ []; presets = 65535 ∷ 65535 ∷ 65535 ∷ 65535 ∷ []; lent = 9 ∷ 9 ∷ 9 ∷ 9 ∷ []; report = accepted 3; colors = 0 ∷ 1 ∷ 2 ∷ 0 ∷ [] }
+    -- IndependentSet (0,1),(0,2),(1,3), nodes 2 and 3 preset 0: 1,2,0,0; sees presets visited by falling number
+    ∷ record { call = greedy-node-color-with-coloring-strategy IndependentSet; n = 4; ends = 0 ∷ 1 ∷ 0 ∷ 2 ∷ 1 ∷ 3 ∷ []; presets = 65535 ∷ 65535 ∷ 0 ∷ 0 ∷ []; lent = 9 ∷ 9 ∷ 9 ∷ 9 ∷ []; report = accepted 3; colors = 1 ∷ 2 ∷ 0 ∷ 0 ∷ [] }
     -- P13: (0,1),(1,2),(0,2),(2,3): 2,1,0,2
     ∷ record { call = misra-gries-edge-color; n = 4; ends = 0 ∷ 1 ∷ 1 ∷ 2 ∷ 0 ∷ 2 ∷ 2 ∷ 3 ∷ []; presets = []; lent = 9 ∷ 9 ∷ 9 ∷ 9 ∷ []; report = accepted 3; colors = 2 ∷ 1 ∷ 0 ∷ 2 ∷ [] }
     -- P14: (0,1),(1,0): 7

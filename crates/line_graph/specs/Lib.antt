@@ -1,0 +1,5 @@
+-- The line list: definitions and laws.
+pub mod LineList
+pub mod LineNeighbors
+pub mod PairLaws
+pub mod LineNeighborLaws

@@ -1,0 +1,1 @@
+// The line list of a graph.
