@@ -1,5 +1,5 @@
 -- What the callers rely on follows from the outcome, for every strategy whose colours are greedy; and the form without presets.
-use Prim.Native.Nat.{ℕ, _≤_}
+use Prim.Native.Nat.{ℕ}
 use mathlib.Core.Bool.{not, _&&_}
 use mathlib.Core.List.{List, [], _∷_, _++_}
 use mathlib.Core.Logic.{inl, inr}
@@ -15,7 +15,7 @@ use Rattle.graph.specs.Report.{Report, accepted, refused}
 use Rattle.graph.specs.Check.{Check, _gives_, firstRefusal, graphChecks, lengthCheck}
 use Rattle.graph.specs.CheckLaws.{Passed, passed, passed-inside, refused-first, passed-first, first-refuses, first-passes, all-passed, answered-refused, answered-accepted, written-refused, written-accepted}
 use Rattle.graph.specs.Edges.{edgeCount, firstEnd, secondEnd, neighbors}
-use Rattle.graph.specs.EdgeLaws.{At, far-first}
+use Rattle.graph.specs.EdgeLaws.{far-first}
 use Rattle.graph.specs.NeighborLaws.{edge-neighbor}
 use Rattle.graph.specs.Color.{colored, daysOf}
 use Rattle.graph.specs.Colored.{noColor}

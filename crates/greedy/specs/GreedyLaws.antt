@@ -17,8 +17,8 @@ use Rattle.graph.specs.EdgeLaws.{At}
 use Rattle.line_graph.specs.LineList.{linePairs}
 use Rattle.line_graph.specs.LineNeighbors.{lineNeighbors}
 use Rattle.line_graph.specs.LineNeighborLaws.{line-neighbors, pair-ends-inside, member-line-neighbor, line-neighbor-bound}
-use Rattle.greedy.specs.Call.{edgeNeighbors}
 use Rattle.graph.specs.NeighborLaws.{neighbor-inside, neighbor-symmetric, neighbor-times, passed-neighbor, passed-degree}
+use Rattle.greedy.specs.Call.{edgeNeighbors}
 use Rattle.greedy.specs.Turn.{others}
 use Rattle.greedy.specs.Greedy.{Neighborhood, Greedy}
 

@@ -12,3 +12,4 @@ pub mod TurnLaws
 pub mod SaturationLaws
 pub mod CallerLaws
 pub mod Marks
+pub mod EdgeMarks

@@ -50,7 +50,7 @@ marked-more marks cs c m = record {
       ];
 }
 
-map-append : (f : ℕ → ℕ) (js ks : List ℕ) → map f (js ++ ks) ≡ map f js ++ map f ks
+pub map-append : (f : ℕ → ℕ) (js ks : List ℕ) → map f (js ++ ks) ≡ map f js ++ map f ks
 map-append f [] ks = refl
 map-append f (j ∷ js) ks = ap (λ (l : List ℕ). f j ∷ l) (map-append f js ks)
 
@@ -86,7 +86,7 @@ first-unmarked-next marks c before here b h = elim (dec-eq b c) [ inl e ↦ rw e
 
 -- ---- what the first place without a mark is
 
-smallest-from : (fuel : ℕ) (cs : List ℕ) (c r : ℕ) → c ≤ r → r ≤ c + fuel → ((b : ℕ) → c ≤ b → b < r → Mem b cs) → (r < c + fuel → Mem r cs → ⊥) → r ≡ smallestFrom fuel cs c
+pub smallest-from : (fuel : ℕ) (cs : List ℕ) (c r : ℕ) → c ≤ r → r ≤ c + fuel → ((b : ℕ) → c ≤ b → b < r → Mem b cs) → (r < c + fuel → Mem r cs → ⊥) → r ≡ smallestFrom fuel cs c
 unfolding smallestFrom
 smallest-from zero cs c r low high used free = omega arith
 smallest-from (suc fuel) cs c r low high used free = by-test (elem c cs)

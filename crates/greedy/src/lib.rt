@@ -9,6 +9,7 @@ use graph::check_graph;
 mod smallest;
 
 pub use smallest::smallest_color;
+pub use smallest::smallest_edge_color;
 
 // Which of the strategies colours.
 pub enum ColoringStrategy {

@@ -1,15 +1,19 @@
 // The smallest free colour at a node, by marks: one pass over the neighbours' colours, one over the marks.
 ghost use mathlib.Core.Path.{_≡_};
-ghost use mathlib.Core.List.{List, []};
+ghost use mathlib.Core.List.{List, [], _++_};
+ghost use Prim.Native.Nat.{ℕ};
 ghost use lib.ListN.{length, set};
 ghost use Rattle.graph.specs.Color.{smallestFrom};
 ghost use Rattle.graph.specs.Colored.{colorOf};
+ghost use Rattle.graph.specs.Edges.{firstEnd, secondEnd};
 ghost use Rattle.graph.specs.Stretch.{stretch};
+ghost use Rattle.greedy.specs.EdgeMarks.{colorsOf};
 ghost use Rattle.greedy.specs.Marks.{farColors, Marked, FirstUnmarked};
 use graph::Color;
 use graph::EdgeIndex;
 use graph::NodeIndex;
 use graph::edges_at;
+use graph::end_at;
 use graph::far_end;
 
 // Marks a colour, if there is a place for it.
@@ -22,13 +26,12 @@ fn mark(marks: &mut [u8], color: Color)
     }
 }
 
-// The colour of a node, none beyond the list.
-fn color_of(colors: &[u16], node: NodeIndex) -> Color
-    ensures { λ r. ⌜ r .0 ≡ colorOf (now (colors .entry)) (node .0) ⌝ }
+// The colour at a place, none beyond the list.
+fn color_of(colors: &[u16], place: usize) -> Color
+    ensures { λ r. ⌜ r .0 ≡ colorOf (now (colors .entry)) place ⌝ }
 {
-    let v = node.0 as usize;
-    if v < colors.len() {
-        Color(colors[v])
+    if place < colors.len() {
+        Color(colors[place])
     } else {
         Color(Color::NONE)
     }
@@ -43,7 +46,7 @@ fn mark_far_colors(ends: &[u16], edges: &[u16], colors: &[u16], node: NodeIndex,
     let mut i = 0;
     while i < edges.len() {
         let far = far_end(ends, EdgeIndex(edges[i]), node);
-        mark(marks, color_of(colors, far));
+        mark(marks, color_of(colors, far.0 as usize));
         i += 1;
     }
 }
@@ -69,5 +72,31 @@ pub fn smallest_color(ends: &[u16], starts: &[u16], entries: &[u16], colors: &[u
     let mut marks = [0u8; 512];
     let edges = edges_at(starts, entries, node);
     mark_far_colors(ends, edges, colors, node, &mut marks);
+    Color(first_unmarked(&marks) as u16)
+}
+
+// Marks the colours of these edges.
+fn mark_colors(edges: &[u16], colors: &[u16], marks: &mut [u8])
+    ensures { λ _. ⌜ ((cs : List ℕ) → Marked (now (marks .entry)) cs → Marked (now (marks .exit)) (cs ++ colorsOf (now (colors .entry)) (now (edges .entry)))) ⌝ }
+    ensures { λ _. ⌜ length (now (marks .exit)) ≡ length (now (marks .entry)) ⌝ }
+{
+    let mut i = 0;
+    while i < edges.len() {
+        mark(marks, color_of(colors, edges[i] as usize));
+        i += 1;
+    }
+}
+
+// The smallest colour that no edge at either end has, of the first 4,096: there are no more edges.
+pub fn smallest_edge_color(ends: &[u16], starts: &[u16], entries: &[u16], colors: &[u16], edge: EdgeIndex) -> Color
+    ensures { λ r. ⌜ r .0 ≡ smallestFrom 4096 (colorsOf (now (colors .entry)) (stretch (now (starts .entry)) (now (entries .entry)) (firstEnd (now (ends .entry)) (edge .0)))
+        ++ colorsOf (now (colors .entry)) (stretch (now (starts .entry)) (now (entries .entry)) (secondEnd (now (ends .entry)) (edge .0)))) 0 ⌝ }
+{
+    let mut marks = [0u8; 4096];
+    let place = 2 * edge.0 as usize;
+    let first = edges_at(starts, entries, end_at(ends, place));
+    mark_colors(first, colors, &mut marks);
+    let second = edges_at(starts, entries, end_at(ends, place + 1));
+    mark_colors(second, colors, &mut marks);
     Color(first_unmarked(&marks) as u16)
 }

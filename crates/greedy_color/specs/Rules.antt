@@ -11,7 +11,7 @@ use Rattle.greedy.specs.Degree.{degreeOrder, degreeColors}
 use Rattle.greedy.specs.TurnLaws.{in-order-greedy}
 use Rattle.greedy.specs.declared.ColoringStrategy.{ColoringStrategy}
 use Rattle.greedy.specs.Call.{Rule, ruleOf, greedyNodes, greedyNodesPlain, HolidayLookup, PageGrid}
-use Rattle.greedy.specs.CallerLaws.{GreedyRule, holiday-lookup, page-grid, plain-same, grid-without-presets}
+use Rattle.greedy.specs.CallerLaws.{GreedyRule, holiday-lookup, page-grid, nodes-plain-same, grid-without-presets}
 use Rattle.greedy.specs.IndependentSet.{independentSetColors}
 use Rattle.independent_set.specs.IndependentSetLaws.{independent-set-greedy}
 use Rattle.degree.specs.OrderLaws.{order-member, member-order, order-nodup}
@@ -37,7 +37,7 @@ module _ (n : ℕ) (ends : List ℕ) (k : ℕ) (lent : List ℕ) (r : Report ℕ
   pub without-presets : (n ≤ 512 → length lent ≡ n → k ≡ n)
       → (r ≡ greedyNodesPlain degreeColors n ends lent .report) × ((colors ≡ greedyNodesPlain degreeColors n ends lent .colors) × PageGrid n ends [] r colors)
   without-presets as-many =
-      let p = plain-same degreeColors n ends (replicate k noColor) lent (λ h e. ap (λ (i : ℕ). replicate i noColor) (as-many h e)) in
+      let p = nodes-plain-same degreeColors n ends (replicate k noColor) lent (λ h e. ap (λ (i : ℕ). replicate i noColor) (as-many (h .nodes) e)) in
       (a ∙ p .0, (b ∙ p .1, grid-without-presets n ends r colors k (page-grid degreeColors degree-greedy n ends (replicate k noColor) lent r colors a b)))
 
 -- The lent part of the list of 512 empty presets.

@@ -12,4 +12,4 @@ returns-2 : tie.Need-returns-2
 returns-2 c = sym (color-outside _ _ (c .if1 .left))
 
 pub color-of-spec : {M : Type 1} → statement M
-color-of-spec = tie.close (tie.spec (λ c. search needs) (λ c. search needs) (λ c. search needs) returns returns-2)
+color-of-spec = tie.close (tie.spec (λ c. search needs) (λ c. search needs) returns returns-2)

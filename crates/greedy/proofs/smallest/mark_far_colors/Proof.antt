@@ -18,7 +18,7 @@ loop-holds : tie.Need-loop-holds Inv-loop μ-loop
 loop-holds c = (omega arith, refl, far-marked-begin _ _ _ (c .before .before .before .before .args .edges .now) _ (c .before .before .before .before .pre))
 
 loop-again : tie.Need-loop-again Inv-loop μ-loop
-loop-again c = (omega arith, c .before .before .mark .kept .0 ∙ c .before .before .before .before .before .before .before .before .loop .inv .1, far-marked-next _ _ _ _ _ _ (c .before .before .before .before .before .before .before .before .loop .inv .2) _ _ _ (c .before .before .before .before .before .before .before .loop-test .taken) (c .before .before .before .before .before .far-end .ensures) (c .before .before .before .color-of .ensures) (c .before .before .mark .ensures))
+loop-again c = (omega arith, c .before .before .mark .kept .0 ∙ c .before .before .before .before .before .before .before .before .before .loop .inv .1, far-marked-next _ _ _ _ _ _ (c .before .before .before .before .before .before .before .before .before .loop .inv .2) _ _ _ (c .before .before .before .before .before .before .before .before .loop-test .taken) (c .before .before .before .before .before .before .far-end .ensures) (c .before .before .before .color-of .ensures) (c .before .before .mark .ensures))
 
 returns : tie.Need-returns Inv-loop μ-loop
 returns c = (far-marked-end _ _ _ _ _ _ (c .before .loop .inv .2) (c .before .loop .inv .0) (c .loop-test .left), c .before .loop .inv .1)
@@ -30,7 +30,7 @@ mark-far-colors-spec =
     Inv-loop
     μ-loop
     loop-holds
-    (λ c. search needs) (λ c. search needs) (λ c κs. search needs) (λ c κs. search needs) (λ c κs. search needs) (λ c. search needs) (λ c. search needs)
+    (λ c. search needs) (λ c. search needs) (λ c κs. search needs) (λ c. search needs) (λ c κs. search needs) (λ c κs. search needs) (λ c. search needs) (λ c. search needs)
     loop-again
     (λ c. search needs)
     returns)
