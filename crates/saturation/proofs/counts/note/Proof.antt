@@ -1,0 +1,36 @@
+-- `note` meets its contract: the node has a colour, or the colour is new to it or not.
+use native.Mathlib.Omega.{arith}
+use borrow.Author.Needs.{needs}
+use Rattle.saturation.specs.Notes.{note-colored, note-old, note-new}
+use Rattle.saturation.proofs.counts.note.Statement.{statement}
+use Rattle.saturation.proofs.counts.note.Tie as tie
+
+returns : tie.Need-returns
+returns c = search (needs, note-colored)
+
+sub-waiting : tie.Need-sub-waiting
+sub-waiting c = c .before .before .before .before .pre .1 (c .before .if1 .left) .0
+
+add-saturations : tie.Need-add-saturations
+add-saturations c = omega (arith, c .before .before .before .before .before .before .before .pre .1 (c .before .before .before .before .if1 .left) .1 (c .before .if2 .taken))
+
+returns-2 : tie.Need-returns-2
+returns-2 c = note-new _ _ _ _ _ (c .before .before .before .before .before .before .before .pre .0 .1) (c .before .before .before .before .before .before .before .pre .0 .2) (c .before .before .before .before .before .before .before .pre .0 .3) (c .before .before .before .before .before .before .before .pre .1 (c .before .before .before .before .if1 .left) .0) (c .before .if2 .taken)
+
+returns-3 : tie.Need-returns-3
+returns-3 c = note-old _ _ _ _ _ (c .before .before .before .before .before .before .pre .0 .2) (c .before .before .before .before .before .before .pre .1 (c .before .before .before .if1 .left) .0) (c .if2 .left)
+
+pub note-spec : {M : Type 1} → statement M
+note-spec =
+    tie.close
+    (tie.spec
+    (λ c. search needs) (λ c. search needs) (λ c. search needs)
+    returns
+    (λ c. search needs) (λ c. search needs)
+    sub-waiting
+    (λ c. search needs) (λ c. search needs) (λ c. search needs) (λ c. search needs)
+    add-saturations
+    (λ c. search needs) (λ c. search needs) (λ c. search needs) (λ c. search needs) (λ c. search needs)
+    returns-2
+    (λ c. search needs)
+    returns-3)

@@ -1,0 +1,50 @@
+-- `set_presets` meets its contract. The invariant: the nodes passed have their presets, the others no colour.
+use Prim.Native.Nat.{_≤_, _-_}
+use mathlib.Core.Path.{refl, _∙_, _≡_}
+use native.Mathlib.Omega.{arith}
+use lib.ListN.{length}
+use borrow.Author.Needs.{needs}
+use Rattle.saturation.specs.Start.{Preset, preset-more, preset-all}
+use Rattle.saturation.specs.Taken.{Ready}
+use Rattle.saturation.proofs.turns.set_presets.Statement.{statement}
+use Rattle.saturation.proofs.turns.set_presets.Tie as tie
+
+abbrev Inv-loop : tie.InvT-loop
+Inv-loop ends starts entries presets colors₀ saturations₀ waiting₀ v₀ colors saturations waiting v = (v ≤ length presets) × (length colors ≡ length colors₀) × (length saturations ≡ length saturations₀) × (length waiting ≡ length waiting₀) × Ready ends starts entries colors saturations waiting × Preset presets v colors
+
+abbrev μ-loop : tie.MeasureT-loop
+μ-loop ends starts entries presets colors₀ saturations₀ waiting₀ v₀ colors saturations waiting v = length presets - v
+
+cast-t18 : tie.Need-cast-t18 Inv-loop μ-loop
+cast-t18 c = omega (arith, c .before .before .before .loop-test .taken, c .before .before .before .before .before .before .before .before .before .before .before .before .pre .1 .0, c .before .before .before .before .loop .inv .1, c .before .before .before .before .loop .inv .4 .passed .nodes)
+
+take-color-requires : tie.Need-take-color-requires Inv-loop μ-loop
+take-color-requires c κs =
+    let i = c .before .before .before .before .before .loop .inv in
+    (i .4, (omega (arith, c .before .before .before .before .loop-test .taken, c .before .before .before .before .before .before .before .before .before .before .before .before .before .pre .1 .0, i .1), i .5 .bare _ (omega arith)))
+
+loop-again : tie.Need-loop-again Inv-loop μ-loop
+loop-again c =
+    let i = c .before .before .before .before .before .before .before .before .before .before .before .before .loop .inv in
+    let e = c .before .before .before .before .before .before .take-color .ensures in
+    (omega (arith, c .before .before .before .before .before .before .before .before .before .before .before .loop-test .taken), search needs, search needs, search needs, e .1, preset-more _ _ _ _ _ (i .5) (omega (arith, c .before .before .before .before .before .before .before .before .before .before .before .loop-test .taken, c .before .before .before .before .before .before .before .before .before .before .before .before .before .before .before .before .before .before .before .before .pre .1 .0, i .1)) (c .before .before .before .before .before .before .before .before .before .before .before .loop-test .taken) refl (e .0))
+
+returns : tie.Need-returns Inv-loop μ-loop
+returns c =
+    let i = c .before .loop .inv in
+    (preset-all _ _ _ (i .5) (i .1 ∙ c .before .before .before .before .before .before .before .before .before .pre .1 .0) (c .loop-test .left), i .4)
+
+pub set-presets-spec : {M : Type 1} → statement M
+set-presets-spec =
+    tie.close
+    (tie.spec
+    Inv-loop
+    μ-loop
+    (λ c. search needs)
+    cast-t18
+    (λ c. search needs) (λ c. search needs)
+    take-color-requires
+    (λ c. search needs) (λ c. search needs)
+    loop-again
+    (λ c. search needs) (λ c. search needs) (λ c. search needs)
+    returns)

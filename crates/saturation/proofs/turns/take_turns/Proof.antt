@@ -1,0 +1,50 @@
+-- `take_turns` meets its contract. The invariant: the turns left lead from here to the answer.
+use Prim.Native.Nat.{_≤_, _-_}
+use mathlib.Core.Path.{refl, _≡_}
+use native.Mathlib.Omega.{arith}
+use lib.ListN.{length}
+use borrow.Author.Needs.{needs}
+use Rattle.graph.specs.Edges.{edgeCount, neighbors}
+use Rattle.greedy.specs.Saturation.{saturationFrom, saturationColors}
+use Rattle.saturation.specs.Taken.{Ready}
+use Rattle.saturation.specs.Turns.{turn-size, turns-none, turns-more, turns-all}
+use Rattle.saturation.proofs.turns.take_turns.Statement.{statement}
+use Rattle.saturation.proofs.turns.take_turns.Tie as tie
+
+abbrev Inv-loop : tie.InvT-loop
+Inv-loop ends starts entries colors₀ saturations₀ waiting₀ turns₀ colors saturations waiting turns = (turns ≤ length colors₀) × (length colors ≡ length colors₀) × (length saturations ≡ length saturations₀) × (length waiting ≡ length waiting₀) × Ready ends starts entries colors saturations waiting × (saturationFrom (neighbors ends (edgeCount ends)) (length colors₀) (length colors₀ - turns) colors ≡ saturationColors (neighbors ends (edgeCount ends)) (length colors₀) colors₀)
+
+abbrev μ-loop : tie.MeasureT-loop
+μ-loop ends starts entries colors₀ saturations₀ waiting₀ turns₀ colors saturations waiting turns = length colors₀ - turns
+
+loop-holds : tie.Need-loop-holds Inv-loop μ-loop
+loop-holds c = (omega arith, refl, refl, refl, c .before .before .before .before .before .before .pre, turns-none _ _ _)
+
+turn-requires : tie.Need-turn-requires Inv-loop μ-loop
+turn-requires c κs = c .before .before .before .before .loop .inv .4
+
+loop-less : tie.Need-loop-less Inv-loop μ-loop
+loop-less c = omega (arith, c .before .before .before .before .before .before .before .before .before .before .loop-test .taken, c .before .before .before .before .before .before .before .before .before .before .before .loop .inv .1)
+
+loop-again : tie.Need-loop-again Inv-loop μ-loop
+loop-again c =
+    let i = c .before .before .before .before .before .before .before .before .before .before .before .loop .inv in
+    let e = c .before .before .before .before .before .before .turn .ensures in
+    (omega (arith, c .before .before .before .before .before .before .before .before .before .before .loop-test .taken, i .1), search needs, search needs, search needs, e .1, turns-more _ _ _ _ _ _ (i .5) (omega (arith, c .before .before .before .before .before .before .before .before .before .before .loop-test .taken, i .1)) (turn-size _ _ _ _ _ (e .0) (i .1)))
+
+returns : tie.Need-returns Inv-loop μ-loop
+returns c = let i = c .before .loop .inv in turns-all _ _ _ _ _ (i .5) (omega (arith, c .loop-test .left, i .1))
+
+pub take-turns-spec : {M : Type 1} → statement M
+take-turns-spec =
+    tie.close
+    (tie.spec
+    Inv-loop
+    μ-loop
+    loop-holds
+    turn-requires
+    (λ c. search needs)
+    loop-less
+    loop-again
+    (λ c. search needs) (λ c. search needs) (λ c. search needs)
+    returns)

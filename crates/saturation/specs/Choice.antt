@@ -1,0 +1,161 @@
+-- The choice of the next node, by the counts that are kept.
+use Prim.Native.Nat.{ℕ, suc, _+_, _<_}
+use mathlib.Core.Path.{_≡_, refl, sym, ap, subst, _∙_}
+use mathlib.Core.Logic.{inl, inr}
+use mathlib.Core.List.{List, [], _∷_, _++_, append-nil}
+use mathlib.Core.Bool.{Bool, true, false, _&&_, _||_, cond}
+use native.Mathlib.Omega.{arith}
+use native.Mathlib.Numerals.{add-one}
+use lib.ListN.{length, getD}
+use lib.Dec.{eqb, ltb}
+use borrow.Author.Tests.{le-ltb, eq-eqb, ne-eqb}
+use Rattle.lists.specs.Tests.{by-test}
+use Rattle.lists.specs.Member.{Mem}
+use Rattle.graph.specs.Colored.{noColor, colorOf}
+use Rattle.graph.specs.ColoredLaws.{color-read}
+use Rattle.greedy.specs.Turn.{uncolored}
+use Rattle.greedy.specs.UncoloredLaws.{last-colored, last-uncolored, uncolored-member}
+use Rattle.greedy.specs.Saturation.{greater, greatest}
+use Rattle.graph.specs.declared.NodeIndex.{NodeIndex}
+use Rattle.saturation.specs.declared.turns.Choice.{Choice}
+use Rattle.saturation.specs.declared.turns.Choice.the-variants.{Node, Nothing}
+use Rattle.saturation.specs.Counts.{Counted}
+
+module _ (saturations waiting : List ℕ) where
+  -- `greater`, by the counts.
+  unfoldable pub leads : ℕ → ℕ → Bool
+  leads u v = ltb (getD saturations v 0) (getD saturations u 0) || (eqb (getD saturations v 0) (getD saturations u 0) && ltb (getD waiting v 0) (getD waiting u 0))
+
+  -- `greatest`, by the counts.
+  unfoldable pub leader : ℕ → List ℕ → ℕ
+  leader v [] = v
+  leader v (u ∷ us) = leader (cond (leads u v) u v) us
+
+  -- As the code compares.
+  pub leads-equal : (u v : ℕ) → getD saturations u 0 ≡ getD saturations v 0 → {r : Bool} → r ≡ ltb (getD waiting v 0) (getD waiting u 0) → r ≡ leads u v
+  unfolding leads
+  leads-equal u v e q = rw (le-ltb (getD saturations v 0) (getD saturations u 0) (omega arith), eq-eqb (getD saturations v 0) (getD saturations u 0) (sym e)) q
+
+  pub leads-unequal : (u v : ℕ) → (getD saturations u 0 ≡ getD saturations v 0 → ⊥) → {r : Bool} → r ≡ ltb (getD saturations v 0) (getD saturations u 0) → r ≡ leads u v
+  unfolding leads
+  leads-unequal u v n q = rw (ne-eqb (getD saturations v 0) (getD saturations u 0) (λ e. n (sym e))) (by-test (ltb (getD saturations v 0) (getD saturations u 0)) (λ t. rw t (q ∙ t)) (λ t. rw t (q ∙ t)))
+
+  leader-last : (v : ℕ) (us : List ℕ) (x : ℕ) → leader v (us ++ x ∷ []) ≡ cond (leads x (leader v us)) x (leader v us)
+  unfolding leader
+  leader-last v [] x = refl
+  leader-last v (u ∷ us) x = leader-last (cond (leads u v) u v) us x
+
+  -- The leader of the nodes below k that have no colour.
+  pub record Leads (colors : List ℕ) (k best : ℕ) : Type 0 where
+    pub inside : best < k
+    pub bare : colorOf colors best ≡ noColor
+    pub first : ℕ
+    pub rest : List ℕ
+    pub candidates : uncolored colors k ≡ first ∷ rest
+    pub best-is : best ≡ leader first rest
+
+  -- The scan has passed the nodes below k; `length colors` stands for no node.
+  pub record Scanned (colors : List ℕ) (k best : ℕ) : Type 0 where
+    pub none : best ≡ length colors → uncolored colors k ≡ []
+    pub some : (best ≡ length colors → ⊥) → Leads colors k best
+
+  module _ (colors : List ℕ) where
+    pub scan-none : Scanned colors 0 (length colors)
+    unfolding uncolored
+    scan-none = record { none = λ e. refl; some = λ n. absurd (n refl) }
+
+    module _ (k best : ℕ) (scanned : Scanned colors k best) (inside : k < length colors) where
+      more-colored : (getD colors k 0 ≡ noColor → ⊥) → uncolored colors (suc k) ≡ uncolored colors k
+      more-colored n = last-colored colors k (λ e. n (color-read colors k 0 inside ∙ e)) ∙ append-nil (uncolored colors k)
+
+      pub scan-colored : (getD colors k 0 ≡ noColor → ⊥) → Scanned colors (k + 1) best
+      scan-colored n = rw (add-one k) (record {
+        none = λ e. more-colored n ∙ scanned .none e;
+        some = λ z. let l = scanned .some z in record { inside = omega (arith, l .inside); bare = l .bare; first = l .first; rest = l .rest; candidates = more-colored n ∙ l .candidates; best-is = l .best-is };
+      })
+
+      module _ (bare : getD colors k 0 ≡ noColor) where
+        bare-here : colorOf colors k ≡ noColor
+        bare-here = sym (color-read colors k 0 inside) ∙ bare
+
+        pub scan-first : best ≡ length colors → Scanned colors (k + 1) k
+        unfolding leader
+        scan-first e = rw (add-one k) (record {
+          none = λ z. absurd (let y : ⊥ = omega arith in y);
+          some = λ z. record { inside = omega arith; bare = bare-here; first = k; rest = []; candidates = last-uncolored colors k bare-here ∙ ap (λ (l : List ℕ). l ++ k ∷ []) (scanned .none e); best-is = refl };
+        })
+
+        pub scan-greater : (best ≡ length colors → ⊥) → (r : Bool) → r ≡ leads k best → r ≡ true → Scanned colors (k + 1) k
+        scan-greater n r q t =
+            let l = scanned .some n in
+            let a : leads k best ≡ true = sym q ∙ t in
+            rw (add-one k) (record {
+              none = λ z. absurd (let y : ⊥ = omega arith in y);
+              some = λ z. record {
+                inside = omega arith;
+                bare = bare-here;
+                first = l .first;
+                rest = l .rest ++ k ∷ [];
+                candidates = last-uncolored colors k bare-here ∙ ap (λ (x : List ℕ). x ++ k ∷ []) (l .candidates);
+                best-is = sym (leader-last (l .first) (l .rest) k ∙ ap (λ (b : ℕ). cond (leads k b) k b) (sym (l .best-is)) ∙ ap (λ (b : Bool). cond b k best) a);
+              };
+            })
+
+        pub scan-same : (best ≡ length colors → ⊥) → (r : Bool) → r ≡ leads k best → r ≡ false → Scanned colors (k + 1) best
+        scan-same n r q t =
+            let l = scanned .some n in
+            let a : leads k best ≡ false = sym q ∙ t in
+            rw (add-one k) (record {
+              none = λ z. absurd (n z);
+              some = λ z. record {
+                inside = omega (arith, l .inside);
+                bare = l .bare;
+                first = l .first;
+                rest = l .rest ++ k ∷ [];
+                candidates = last-uncolored colors k bare-here ∙ ap (λ (x : List ℕ). x ++ k ∷ []) (l .candidates);
+                best-is = sym (leader-last (l .first) (l .rest) k ∙ ap (λ (b : ℕ). cond (leads k b) k b) (sym (l .best-is)) ∙ ap (λ (b : Bool). cond b k best) a);
+              };
+            })
+
+-- The answer of the scan over all nodes.
+pub record Chosen (colors saturations waiting : List ℕ) (choice : Choice) : Type 0 where
+  pub nothing : choice ≡ Nothing → uncolored colors (length colors) ≡ []
+  pub node : (v : NodeIndex) → choice ≡ Node v → Leads saturations waiting colors (length colors) (v .0)
+
+module _ (colors saturations waiting : List ℕ) (k best : ℕ) (scanned : Scanned saturations waiting colors k best) (end : k ≡ length colors) where
+  pub chosen-nothing : best ≡ length colors → Chosen colors saturations waiting Nothing
+  chosen-nothing e = record { nothing = λ _. ap (uncolored colors) (sym end) ∙ scanned .none e; node = λ v p. let z : _≡_ {A = ℕ} 0 1 = cc in absurd (omega arith) }
+
+  pub chosen-node : (best ≡ length colors → ⊥) → Chosen colors saturations waiting (Node (record { 0 = best }))
+  chosen-node n = record {
+    nothing = λ p. let z : _≡_ {A = ℕ} 0 1 = cc in absurd (omega arith);
+    node = λ v p.
+        let i : record { 0 = best } ≡ v = cc in
+        subst (λ (x : ℕ). Leads saturations waiting colors (length colors) x) (ap (λ (x : NodeIndex). x .0) i) (subst (λ (x : ℕ). Leads saturations waiting colors x best) end (scanned .some n));
+  }
+
+-- ---- the counts are those of the definition
+
+module _ (nb : ℕ → List ℕ) (n : ℕ) (colors saturations waiting : List ℕ) (counted : Counted nb n colors saturations waiting) where
+  -- Nodes that are counted.
+  abbrev Candidate : ℕ → Type 0
+  Candidate v = (v < n) × (colorOf colors v ≡ noColor)
+
+  leads-greater : (u v : ℕ) → Candidate u → Candidate v → leads saturations waiting u v ≡ greater nb colors u v
+  unfolding leads greater
+  leads-greater u v (h, e) (k, f) = rw (counted .differs u h e, counted .differs v k f, counted .waits u h e, counted .waits v k f)
+
+  leader-greatest : (v : ℕ) (us : List ℕ) → Candidate v → ((u : ℕ) → Mem u us → Candidate u) → leader saturations waiting v us ≡ greatest nb colors v us
+  unfolding leader greatest
+  leader-greatest v [] c all = refl
+  leader-greatest v (u ∷ us) c all =
+      let d = all u (inl refl) in
+      let e = leads-greater u v d c in
+      by-test (greater nb colors u v)
+      (λ t. rw (e, t) (leader-greatest u us d (λ x p. all x (inr p))))
+      (λ t. rw (e, t) (leader-greatest v us c (λ x p. all x (inr p))))
+
+  pub leads-chosen : (best : ℕ) → (l : Leads saturations waiting colors n best) → best ≡ greatest nb colors (l .first) (l .rest)
+  leads-chosen best l =
+      let all : (u : ℕ) → Mem u (l .first ∷ l .rest) → Candidate u = λ u p. uncolored-member colors n u (subst (λ (x : List ℕ). Mem u x) (sym (l .candidates)) p) in
+      l .best-is ∙ leader-greatest (l .first) (l .rest) (all (l .first) (inl refl)) (λ u p. all u (inr p))

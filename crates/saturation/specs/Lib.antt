@@ -1,0 +1,8 @@
+-- Strategy Saturation with counts that are kept up to date.
+pub mod Counts
+pub mod Notes
+pub mod Touched
+pub mod Taken
+pub mod Start
+pub mod Choice
+pub mod Turns

@@ -1,0 +1,127 @@
+-- What the neighbours of a node that takes a colour note: one neighbour fewer waits, and the colour is counted once.
+use Prim.Native.Nat.{ℕ, suc, _+_, _-_, _≤_, _<_}
+use mathlib.Core.Path.{_≡_, refl, sym, ap, _∙_}
+use mathlib.Core.Logic.{inl, inr, _≢_}
+use mathlib.Core.List.{List, [], _∷_, _++_, map}
+use native.Mathlib.Omega.{arith}
+use native.Mathlib.Numerals.{add-one}
+use lib.ListN.{length, getD, take, drop, set, take-append-drop}
+use lib.Seq.{take-suc, take-length, getD-set-same, getD-set-other}
+use Rattle.lists.specs.Tests.{dec-eq}
+use Rattle.lists.specs.Different.{count, count-append, count-here, count-there, count-none}
+use Rattle.graph.specs.Edges.{farEnd}
+use Rattle.graph.specs.Colored.{noColor, colorOf}
+use Rattle.graph.specs.ColoredLaws.{color-read}
+
+-- A node's counts and mark, before and after it has noted the colour `times` times: it waits for as many fewer, and the colour is new to it unless the mark stood.
+pub record NotedTimes (times saturation₀ waiting₀ mark₀ saturation waiting mark : ℕ) : Type 0 where
+  pub waits : waiting + times ≡ waiting₀
+  pub not-yet : times ≡ 0 → (saturation ≡ saturation₀) × (mark ≡ mark₀)
+  pub old : mark₀ ≢ 0 → (saturation ≡ saturation₀) × (mark ≢ 0)
+  pub new : mark₀ ≡ 0 → times ≢ 0 → (saturation ≡ suc saturation₀) × (mark ≢ 0)
+
+none-noted : (s w m : ℕ) → NotedTimes 0 s w m s w m
+none-noted s w m = record { waits = omega arith; not-yet = λ z. (refl, refl); old = λ z. (refl, z); new = λ z y. absurd (y refl) }
+
+more-noted : (a b s₀ w₀ m₀ s w m s′ w′ m′ : ℕ) → NotedTimes a s₀ w₀ m₀ s w m → NotedTimes b s w m s′ w′ m′ → NotedTimes (a + b) s₀ w₀ m₀ s′ w′ m′
+more-noted a b s₀ w₀ m₀ s w m s′ w′ m′ p q = record {
+  waits = omega (arith, p .waits, q .waits);
+  not-yet = λ z. let x = p .not-yet (omega arith) in let y = q .not-yet (omega arith) in (y .0 ∙ x .0, y .1 ∙ x .1);
+  old = λ z. let x = p .old z in let y = q .old (x .1) in (y .0 ∙ x .0, y .1);
+  new = λ z n. elim (dec-eq a 0) [
+    | inl e ↦ let x = p .not-yet e in let y = q .new (x .1 ∙ z) (λ e′. n (omega arith)) in (y .0 ∙ ap suc (x .0), y .1)
+    | inr e ↦ let x = p .new z e in let y = q .old (x .1) in (y .0 ∙ x .0, y .1)
+  ];
+}
+
+-- Each node without a colour has noted the colour as often as it stands among these nodes.
+pub record Noted (colors us saturations₀ waiting₀ marks₀ saturations waiting marks : List ℕ) : Type 0 where
+  pub at : (u : ℕ) → u < length colors → colorOf colors u ≡ noColor
+      → NotedTimes (count u us) (getD saturations₀ u 0) (getD waiting₀ u 0) (getD marks₀ u 0) (getD saturations u 0) (getD waiting u 0) (getD marks u 0)
+
+noted-none : (colors saturations waiting marks : List ℕ) → Noted colors [] saturations waiting marks saturations waiting marks
+noted-none colors saturations waiting marks = record { at = λ u h e. rw (count-none u [] (λ p. p)) (none-noted _ _ _) }
+
+noted-more : (colors us ws s₀ w₀ m₀ s w m s′ w′ m′ : List ℕ) → Noted colors us s₀ w₀ m₀ s w m → Noted colors ws s w m s′ w′ m′ → Noted colors (us ++ ws) s₀ w₀ m₀ s′ w′ m′
+noted-more colors us ws s₀ w₀ m₀ s w m s′ w′ m′ p q = record { at = λ u h e. rw (count-append u us ws) (more-noted _ _ _ _ _ _ _ _ _ _ _ (p .at u h e) (q .at u h e)) }
+
+-- ---- one node notes the colour
+
+module _ (colors s w m : List ℕ) (u : ℕ) where
+  other : (x : ℕ) → x ≢ u → (s′ w′ m′ : List ℕ) → getD s′ x 0 ≡ getD s x 0 → getD w′ x 0 ≡ getD w x 0 → getD m′ x 0 ≡ getD m x 0
+      → NotedTimes (count x (u ∷ [])) (getD s x 0) (getD w x 0) (getD m x 0) (getD s′ x 0) (getD w′ x 0) (getD m′ x 0)
+  other x n s′ w′ m′ a b d = rw (count-there x u [] n, count-none x [] (λ p. p), a, b, d) (none-noted _ _ _)
+
+  -- It has a colour: its counts do not matter.
+  pub note-colored : u < length colors → (getD colors u 0 ≡ noColor → ⊥) → Noted colors (u ∷ []) s w m s w m
+  note-colored b n = record { at = λ x h e. other x (λ p. n (color-read colors u 0 b ∙ (ap (colorOf colors) (sym p) ∙ e))) s w m refl refl refl }
+
+  -- The colour is not new to it.
+  pub note-old : u < length w → 0 < getD w u 0 → (getD m u 0 ≡ 0 → ⊥) → Noted colors (u ∷ []) s w m s (set w u (getD w u 0 - 1)) m
+  note-old b h k = record {
+    at = λ x i e. elim (dec-eq x u) [
+      | inl p ↦ rw (p, count-here u [], count-none u [] (λ q. q), getD-set-same w u (getD w u 0 - 1) 0 b)
+          (record { waits = omega arith; not-yet = λ z. absurd (let y : ⊥ = omega arith in y); old = λ z. (refl, z); new = λ z y. absurd (k z) })
+      | inr p ↦ other x p s (set w u (getD w u 0 - 1)) m refl (getD-set-other w u x _ 0 p) refl
+    ];
+  }
+
+  -- The colour is new to it.
+  pub note-new : u < length s → u < length w → u < length m → 0 < getD w u 0 → getD m u 0 ≡ 0 → Noted colors (u ∷ []) s w m (set s u (getD s u 0 + 1)) (set w u (getD w u 0 - 1)) (set m u 1)
+  note-new a b d h k = record {
+    at = λ x i e. elim (dec-eq x u) [
+      | inl p ↦ rw (p, count-here u [], count-none u [] (λ q. q), getD-set-same s u (getD s u 0 + 1) 0 a, getD-set-same w u (getD w u 0 - 1) 0 b, getD-set-same m u 1 0 d)
+          (record { waits = omega arith; not-yet = λ z. absurd (let y : ⊥ = omega arith in y); old = λ z. absurd (z k); new = λ z y. (omega arith, λ q. omega arith) })
+      | inr p ↦ other x p (set s u (getD s u 0 + 1)) (set w u (getD w u 0 - 1)) (set m u 1) (getD-set-other s u x _ 0 p) (getD-set-other w u x _ 0 p) (getD-set-other m u x 1 0 p)
+    ];
+  }
+
+-- ---- one far end after the other
+
+-- The far ends of these edges of v.
+unfoldable pub farEnds : List ℕ → ℕ → List ℕ → List ℕ
+farEnds ends v ks = map (λ (k : ℕ). farEnd ends k v) ks
+
+map-append : (f : ℕ → ℕ) (js ks : List ℕ) → map f (js ++ ks) ≡ map f js ++ map f ks
+map-append f [] ks = refl
+map-append f (j ∷ js) ks = ap (λ (l : List ℕ). f j ∷ l) (map-append f js ks)
+
+far-ends-more : (ends : List ℕ) (v : ℕ) (ks : List ℕ) (i : ℕ) → i < length ks → farEnds ends v (take (i + 1) ks) ≡ farEnds ends v (take i ks) ++ farEnd ends (getD ks i 0) v ∷ []
+unfolding farEnds
+far-ends-more ends v ks i h = rw (add-one i, take-suc ks i 0 h) (map-append (λ (k : ℕ). farEnd ends k v) (take i ks) (getD ks i 0 ∷ []))
+
+far-ends-cut : (ends : List ℕ) (v : ℕ) (ks : List ℕ) (i : ℕ) → farEnds ends v ks ≡ farEnds ends v (take i ks) ++ farEnds ends v (drop i ks)
+unfolding farEnds
+far-ends-cut ends v ks i = ap (map (λ (k : ℕ). farEnd ends k v)) (sym (take-append-drop i ks)) ∙ map-append (λ (k : ℕ). farEnd ends k v) (take i ks) (drop i ks)
+
+-- Each node without a colour has room to note the colour as often as it stands among these nodes.
+pub record Room (colors us saturations waiting : List ℕ) : Type 0 where
+  pub at : (u : ℕ) → u < length colors → colorOf colors u ≡ noColor → (count u us ≤ getD waiting u 0) × (getD saturations u 0 < 65535)
+
+module _ (ends colors edges : List ℕ) (v : ℕ) (s₀ w₀ m₀ s w m : List ℕ) (i : ℕ) where
+  pub notes-none : Noted colors (farEnds ends v (take 0 edges)) s w m s w m
+  unfolding farEnds
+  notes-none = noted-none colors s w m
+
+  -- The next far end has room.
+  pub notes-room : Room colors (farEnds ends v edges) s₀ w₀ → Noted colors (farEnds ends v (take i edges)) s₀ w₀ m₀ s w m → i < length edges
+      → (u : ℕ) → u ≡ farEnd ends (getD edges i 0) v → u < length colors → getD colors u 0 ≡ noColor → (0 < getD w u 0) × (getD m u 0 ≡ 0 → getD s u 0 < 65535)
+  notes-room room noted h u p b z =
+      let e = sym (color-read colors u 0 b) ∙ z in
+      let r = room .at u b e in
+      let t = noted .at u b e in
+      let more : count u (farEnds ends v (take (i + 1) edges)) ≡ count u (farEnds ends v (take i edges)) + 1 = ap (count u) (far-ends-more ends v edges i h) ∙ (count-append u (farEnds ends v (take i edges)) (farEnd ends (getD edges i 0) v ∷ []) ∙ omega (arith, ap (λ (x : ℕ). count u (x ∷ [])) (sym p), count-here u [], count-none u [] (λ q. q))) in
+      let all = ap (count u) (far-ends-cut ends v edges (i + 1)) ∙ count-append u (farEnds ends v (take (i + 1) edges)) (farEnds ends v (drop (i + 1) edges)) in (
+        omega (arith, r .0, t .waits, more, all),
+        λ z. elim (dec-eq (getD m₀ u 0) 0) [
+          | inl q ↦ elim (dec-eq (count u (farEnds ends v (take i edges))) 0) [ inl k ↦ omega (arith, r .1, t .not-yet k .0) | inr k ↦ absurd (t .new q k .1 z) ]
+          | inr q ↦ absurd (t .old q .1 z)
+        ],
+      )
+
+  pub notes-more : (s′ w′ m′ : List ℕ) → Noted colors (farEnds ends v (take i edges)) s₀ w₀ m₀ s w m → i < length edges
+      → (u : ℕ) → u ≡ farEnd ends (getD edges i 0) v → Noted colors (u ∷ []) s w m s′ w′ m′ → Noted colors (farEnds ends v (take (i + 1) edges)) s₀ w₀ m₀ s′ w′ m′
+  notes-more s′ w′ m′ p h u e q = rw (far-ends-more ends v edges i h, sym e) (noted-more colors (farEnds ends v (take i edges)) (u ∷ []) s₀ w₀ m₀ s w m s′ w′ m′ p q)
+
+  pub notes-all : Noted colors (farEnds ends v (take i edges)) s₀ w₀ m₀ s w m → i ≤ length edges → length edges ≤ i → Noted colors (farEnds ends v edges) s₀ w₀ m₀ s w m
+  notes-all p h k = let e : i ≡ length edges = omega arith in rw (e, take-length edges) at p
