@@ -3,3 +3,7 @@ pub mod LineList
 pub mod LineNeighbors
 pub mod PairLaws
 pub mod LineNeighborLaws
+pub mod LineReport
+pub mod Placed
+pub mod WrittenPairs
+pub mod CallLaws

@@ -133,8 +133,8 @@ end-cases ends k =
     elim (dec-eq a b) [
       | inl e ↦ loop (eq-eqb a b e) e
       | inr n ↦ by-test (ltb a b)
-        (λ t. apart (ne-eqb a b n) (rw t (ltb-true a b t)) (rw t (inl refl)) (rw t (inr refl)) (λ v p. rw t (elim p [ inl e ↦ inl (sym e) | inr e ↦ inr (sym e) ])))
-        (λ t. apart (ne-eqb a b n) (let h = ltb-false a b t in rw t (omega arith)) (rw t (inr refl)) (rw t (inl refl)) (λ v p. rw t (elim p [ inl e ↦ inr (sym e) | inr e ↦ inl (sym e) ])))
+          (λ t. apart (ne-eqb a b n) (rw t (ltb-true a b t)) (rw t (inl refl)) (rw t (inr refl)) (λ v p. rw t (elim p [ inl e ↦ inl (sym e) | inr e ↦ inr (sym e) ])))
+          (λ t. apart (ne-eqb a b n) (let h = ltb-false a b t in rw t (omega arith)) (rw t (inr refl)) (rw t (inl refl)) (λ v p. rw t (elim p [ inl e ↦ inr (sym e) | inr e ↦ inl (sym e) ])))
     ]
 
 -- ---- the neighbours
@@ -161,17 +161,25 @@ line-neighbors ends m n k inside h =
     go (loop t e) =
         let a = firstEnd ends k in
         let other : (v : ℕ) → v ≢ a → At ends k v → ⊥ = λ v o p. elim p [ inl q ↦ o (sym q) | inr q ↦ o (sym q ∙ sym e) ] in
-        rw (gathered-one (firstsAt ends m k) n a (inside k h .0) (λ v b o. firsts-none ends m k v (other v o)),
-            gathered-one (secondsAt ends m k) n a (inside k h .0) (λ v b o. seconds-none ends m k v (other v o)),
-            firsts-later ends m k a, seconds-earlier ends m k a h (inl refl))
+        rw (
+          gathered-one (firstsAt ends m k) n a (inside k h .0) (λ v b o. firsts-none ends m k v (other v o)),
+          gathered-one (secondsAt ends m k) n a (inside k h .0) (λ v b o. seconds-none ends m k v (other v o)),
+          firsts-later ends m k a,
+          seconds-earlier ends m k a h (inl refl),
+        )
         (sym (loop-neighbors ends m k t))
     go (apart t l p q two) =
         let low = lowerEnd ends k in
         let high = higherEnd ends k in
         let other : (v : ℕ) → v ≢ low → v ≢ high → At ends k v → ⊥ = λ v o o′ r. elim (two v r) [ inl s ↦ o s | inr s ↦ o′ s ] in
-        rw (gathered-two (firstsAt ends m k) n low high l (at-inside ends m n k high inside h q) (λ v b o o′. firsts-none ends m k v (other v o o′)),
-            gathered-two (secondsAt ends m k) n low high l (at-inside ends m n k high inside h q) (λ v b o o′. seconds-none ends m k v (other v o o′)),
-            firsts-later ends m k high, firsts-later ends m k low, seconds-earlier ends m k high h q, seconds-earlier ends m k low h p)
+        rw (
+          gathered-two (firstsAt ends m k) n low high l (at-inside ends m n k high inside h q) (λ v b o o′. firsts-none ends m k v (other v o o′)),
+          gathered-two (secondsAt ends m k) n low high l (at-inside ends m n k high inside h q) (λ v b o o′. seconds-none ends m k v (other v o o′)),
+          firsts-later ends m k high,
+          firsts-later ends m k low,
+          seconds-earlier ends m k high h q,
+          seconds-earlier ends m k low h p,
+        )
         (sym (apart-neighbors ends m k t))
 
 -- ---- which they are
@@ -322,9 +330,16 @@ module _ (ends : List ℕ) (m k : ℕ) (h : k < m) where
       go (apart t l low high two) =
           let b = higherEnd ends k in
           let a = lowerEnd ends k in
-          omega (arith, ap length (apart-neighbors ends m k t), length-append (laterAt ends m k b ++ laterAt ends m k a) (earlierAt ends m k b ++ earlierAt ends m k a),
-              length-append (laterAt ends m k b) (laterAt ends m k a), length-append (earlierAt ends m k b) (earlierAt ends m k a),
-              length-at b high, length-at a low, ends-sum (degree ends m) ends k)
+          omega (
+            arith,
+            ap length (apart-neighbors ends m k t),
+            length-append (laterAt ends m k b ++ laterAt ends m k a) (earlierAt ends m k b ++ earlierAt ends m k a),
+            length-append (laterAt ends m k b) (laterAt ends m k a),
+            length-append (earlierAt ends m k b) (earlierAt ends m k a),
+            length-at b high,
+            length-at a low,
+            ends-sum (degree ends m) ends k,
+          )
 
   pub line-neighbor-count-loop : firstEnd ends k ≡ secondEnd ends k → length (lineNeighbors ends m k) + 1 ≡ degree ends m (firstEnd ends k)
   unfolding isLoop
@@ -342,9 +357,16 @@ module _ (ends : List ℕ) (m k : ℕ) (h : k < m) where
       go (apart t l low high two) =
           let b = higherEnd ends k in
           let a = lowerEnd ends k in
-          omega (arith, ap (count j) (apart-neighbors ends m k t), count-append j (laterAt ends m k b ++ laterAt ends m k a) (earlierAt ends m k b ++ earlierAt ends m k a),
-              count-append j (laterAt ends m k b) (laterAt ends m k a), count-append j (earlierAt ends m k b) (earlierAt ends m k a),
-              times-at j b o high, times-at j a o low, ends-sum (λ (v : ℕ). count j (edgesAt ends m v)) ends k)
+          omega (
+            arith,
+            ap (count j) (apart-neighbors ends m k t),
+            count-append j (laterAt ends m k b ++ laterAt ends m k a) (earlierAt ends m k b ++ earlierAt ends m k a),
+            count-append j (laterAt ends m k b) (laterAt ends m k a),
+            count-append j (earlierAt ends m k b) (earlierAt ends m k a),
+            times-at j b o high,
+            times-at j a o low,
+            ends-sum (λ (v : ℕ). count j (edgesAt ends m v)) ends k,
+          )
 
   pub line-neighbor-times-loop : (j : ℕ) → j ≢ k → firstEnd ends k ≡ secondEnd ends k → count j (lineNeighbors ends m k) ≡ count j (edgesAt ends m (firstEnd ends k))
   unfolding isLoop

@@ -234,8 +234,8 @@ unfolding pairsOf
 second-of k (j ∷ ks) u p =
     second-append k (pairsWith j ks) (pairsOf ks) (paired-with j ks) ∙ elim (dec-eq j k) [
       | inl e ↦
-        let n : Mem k ks → ⊥ = rw e at (u .0) in
-        rw (second-of-none k ks n, second-with-none k j ks n, e, before-here k ks)
+          let n : Mem k ks → ⊥ = rw e at (u .0) in
+          rw (second-of-none k ks n, second-with-none k j ks n, e, before-here k ks)
       | inr n ↦ elim p [
         | inl e ↦ absurd (n (sym e))
         | inr q ↦ rw (second-of k ks (u .1) q, second-with k j ks (u .1) n q, before-there k j ks n) (sym (reverse-cons j (beforeIn k ks)))

@@ -1,1 +1,47 @@
-// The line list of a graph.
+// The line list of a graph: its edges as nodes, and a pair for each two edges at a node.
+ghost use mathlib.Core.Path.{_≡_};
+ghost use Rattle.graph.specs.CheckLaws.{Passed};
+ghost use Rattle.line_graph.specs.LineReport.{reportOfLineList};
+ghost use Rattle.line_graph.specs.LineList.{lineGraph};
+use graph::Checked;
+use graph::Refusal;
+use graph::check_graph;
+use graph::incidence_front;
+
+mod pairs;
+
+// The answer of the line list.
+pub enum LineList {
+    Accepted { pairs: usize },
+    Refused(Refusal),
+}
+
+// A graph that passed the checks. The list's length is known before anything is written, so a list that is too short stays as lent.
+fn list_pairs(n: usize, ends: &[u16], list: &mut [u16]) -> LineList
+    requires { ⌜ Passed n (now ends) ⌝ }
+    ensures { λ r. ⌜ reportOfLineList r ≡ lineGraph n (now (ends .entry)) (now (list .entry)) .report ⌝ }
+    ensures { λ _. ⌜ now (list .exit) ≡ lineGraph n (now (ends .entry)) (now (list .entry)) .list ⌝ }
+{
+    let mut starts = [0u16; 513];
+    let mut entries = [0u16; 8192];
+    incidence_front(n, ends, &mut starts, &mut entries);
+    let total = pairs::list_length(n, &starts, &entries);
+    if list.len() < total {
+        return LineList::Refused(Refusal::ShortList);
+    }
+    pairs::write_pairs(n, &starts, &entries, list);
+    LineList::Accepted { pairs: total / 2 }
+}
+
+// For nodes rising, each edge at the node is paired with those after it there; numbers beyond the pairs stay as lent.
+pub fn line_graph(n: usize, ends: &[u16], list: &mut [u16]) -> LineList
+    ensures { λ r. ⌜ reportOfLineList r ≡ lineGraph n (now (ends .entry)) (now (list .entry)) .report ⌝ }
+    ensures { λ _. ⌜ now (list .exit) ≡ lineGraph n (now (ends .entry)) (now (list .entry)) .list ⌝ }
+{
+    match check_graph(n, ends) {
+        Checked::Refused(refusal) => {
+            return LineList::Refused(refusal);
+        }
+        Checked::Accepted(_) => list_pairs(n, ends, list),
+    }
+}

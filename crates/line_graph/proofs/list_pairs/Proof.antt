@@ -1,0 +1,29 @@
+-- `list_pairs` meets its contract: the made table gives the length and the pairs, and one law stands for each answer.
+use mathlib.Core.Path.{refl}
+use native.Mathlib.Omega.{arith}
+use borrow.Author.Needs.{needs}
+use Rattle.line_graph.specs.CallLaws.{few-edges, list-short, list-written}
+use Rattle.line_graph.proofs.list_pairs.Statement.{statement}
+use Rattle.line_graph.proofs.list_pairs.Tie as tie
+
+list-length-requires : tie.Need-list-length-requires
+list-length-requires c κs = let p = c .before .before .before .before .before .before .before .before .before .pre in (p .nodes, few-edges _ _ _ _ p (c .before .before .before .before .incidence-front .ensures .1 .1 p (omega (arith, p .nodes)) (omega (arith, p .even, p .edges))))
+
+returns : tie.Need-returns
+returns c = let p = c .before .before .before .before .before .before .before .before .before .before .before .pre in list-short _ _ _ p _ _ (c .before .before .before .before .before .before .incidence-front .ensures .1 .1 p (omega (arith, p .nodes)) (omega (arith, p .even, p .edges))) _ (c .before .list-length .ensures) (c .if1 .taken)
+
+returns-2 : tie.Need-returns-2
+returns-2 c =
+    let t = c .before .before .before .before .before .before .before in
+    let p = t .before .before .before .before .before .before .before .before .before .before .pre in
+    list-written _ _ _ p _ _ (t .before .before .before .before .before .incidence-front .ensures .1 .1 p (omega (arith, p .nodes)) (omega (arith, p .even, p .edges))) _ (t .list-length .ensures) _ _ (c .before .before .before .before .before .before .if1 .left) refl (c .before .before .write-pairs .ensures)
+
+pub list-pairs-spec : {M : Type 1} → statement M
+list-pairs-spec =
+    tie.close
+    (tie.spec
+    (λ c. search needs) (λ c. search needs) (λ c κs. search needs) (λ c. search needs) (λ c. search needs)
+    list-length-requires
+    returns
+    (λ c. search needs) (λ c. search needs) (λ c κs. search needs) (λ c. search needs)
+    returns-2)

@@ -1,0 +1,51 @@
+-- `write_pairs` meets its contract. The invariant: the front of the list holds the pairs at the nodes passed, and the next place is right behind them.
+use Prim.Native.Nat.{_≤_, _-_}
+use mathlib.Core.Path.{_≡_, refl, _∙_}
+use native.Mathlib.Omega.{arith}
+use lib.ListN.{length}
+use borrow.Author.Needs.{needs}
+use Rattle.line_graph.specs.Placed.{Writing}
+use Rattle.line_graph.specs.WrittenPairs.{pairsBelow, below-start, below-room, below-next, below-end}
+use Rattle.line_graph.proofs.pairs.write_pairs.Statement.{statement}
+use Rattle.line_graph.proofs.pairs.write_pairs.Tie as tie
+
+abbrev Inv-loop : tie.InvT-loop
+Inv-loop n starts entries list₀ place₀ v₀ list place v = (v ≤ n) × (length list ≡ length list₀) × Writing list₀ 0 (pairsBelow starts entries v) list place
+
+abbrev μ-loop : tie.MeasureT-loop
+μ-loop n starts entries list₀ place₀ v₀ list place v = n - v
+
+loop-holds : tie.Need-loop-holds Inv-loop μ-loop
+loop-holds c = (omega arith, refl, below-start _ _ _)
+
+write-pairs-of-requires : tie.Need-write-pairs-of-requires Inv-loop μ-loop
+write-pairs-of-requires c κs =
+    let s = c .before .before .before .before .before .before .before in
+    let l = c .before .before .before .loop in
+    let e = c .before .edges-at in
+    omega (arith, l .inv .1, below-room _ _ (s .args .list .now) (l .list) (l .v) (s .args .n) (l .place) (l .inv .2) (e .result .now) (e .ensures .0) (c .before .before .loop-test .taken) (s .pre .1))
+
+loop-again : tie.Need-loop-again Inv-loop μ-loop
+loop-again c =
+    let s = c .before .before .before .before .before .before .before .before .before .before in
+    let l = c .before .before .before .before .before .before .loop in
+    let e = c .before .before .before .before .edges-at in
+    let w = c .before .before .write-pairs-of in
+    (omega arith, w .kept .1 .0 ∙ l .inv .1, below-next _ _ (s .args .list .now) (l .list) (l .v) (s .args .n) (l .place) (l .inv .2) (e .result .now) _ _ (e .ensures .0) (c .before .before .before .before .before .loop-test .taken) (s .pre .1) (w .ensures .1) (w .ensures .0))
+
+returns : tie.Need-returns Inv-loop μ-loop
+returns c = let l = c .before .loop in below-end _ _ _ _ (l .v) _ (l .place) (l .inv .2) (l .inv .0) (omega arith)
+
+pub write-pairs-spec : {M : Type 1} → statement M
+write-pairs-spec =
+    tie.close
+    (tie.spec
+    Inv-loop
+    μ-loop
+    loop-holds
+    (λ c. search needs) (λ c κs. search needs)
+    write-pairs-of-requires
+    (λ c. search needs) (λ c. search needs)
+    loop-again
+    (λ c. search needs)
+    returns)
