@@ -7,11 +7,19 @@ use crate::output::{put, put_all, put_bytes, put_list, put_part, put_report};
 
 use graph::{Coloring, IncidenceAnswer, NodeIndex, edges_at};
 use greedy::ColoringStrategy;
+use line_graph::LineList;
 
 fn put_coloring(text: &mut [u8], waiting: usize, name: &[u8], answer: Coloring) -> usize {
     match answer {
         Coloring::Accepted { days } => put_report(text, waiting, name, b"days", days as u64),
         Coloring::Refused(refusal) => put_report(text, waiting, name, b"refused", refusal.number() as u64),
+    }
+}
+
+fn put_line_list(text: &mut [u8], waiting: usize, answer: LineList) -> usize {
+    match answer {
+        LineList::Accepted { pairs } => put_report(text, waiting, b"line_graph", b"pairs", pairs as u64),
+        LineList::Refused(refusal) => put_report(text, waiting, b"line_graph", b"refused", refusal.number() as u64),
     }
 }
 
@@ -54,6 +62,16 @@ fn call_two_color(text: &mut [u8], waiting: usize, n: usize, ends: &[u16], line:
     let answer = two_color::two_color(n, ends, colors);
     let end = put_coloring(text, waiting, b"two_color", answer);
     let end = put_bytes(text, end, colors);
+    put(text, end, b'\n')
+}
+
+fn call_line_graph(text: &mut [u8], waiting: usize, n: usize, ends: &[u16], line: Line, list: &mut [u16]) -> usize {
+    let c = cut(line.first, list);
+    let pairs = &mut list[..c];
+    lend(pairs);
+    let answer = line_graph::line_graph(n, ends, pairs);
+    let end = put_line_list(text, waiting, answer);
+    let end = put_list(text, end, pairs);
     put(text, end, b'\n')
 }
 
@@ -131,6 +149,7 @@ pub fn call(
         Name::Incidence => call_incidence(text, waiting, n, ends, line, list, entries),
         Name::EdgesAt => call_edges_at(text, waiting, line, list, entries),
         Name::TwoColor => call_two_color(text, waiting, n, ends, line, bytes),
+        Name::LineGraph => call_line_graph(text, waiting, n, ends, line, list),
         Name::GreedyNodeColor => call_node_color(text, waiting, n, ends, line, list),
         Name::GreedyNodeColorWithPresetColors => call_node_color_preset(text, waiting, n, ends, presets, line, list),
         Name::GreedyNodeColorWithColoringStrategy => call_node_color_by(text, waiting, n, ends, presets, line, list),

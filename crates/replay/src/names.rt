@@ -11,6 +11,7 @@ pub enum Name {
     Incidence,
     EdgesAt,
     TwoColor,
+    LineGraph,
     GreedyNodeColor,
     GreedyNodeColorWithPresetColors,
     GreedyNodeColorWithColoringStrategy,
@@ -55,6 +56,9 @@ fn name_of(word: &[u8]) -> Name {
     }
     if same(word, b"two_color") {
         return Name::TwoColor;
+    }
+    if same(word, b"line_graph") {
+        return Name::LineGraph;
     }
     if same(word, b"greedy_node_color") {
         return Name::GreedyNodeColor;
