@@ -35,6 +35,26 @@ degrees-next starts entries degrees v edges e h p u b = elim (dec-eq u v) [
   | inr n ↦ getD-set-other degrees v u (length edges) 0 n ∙ e u (omega (arith, n))
 ]
 
+-- ---- the order, of any items whose degrees are known
+
+module _ (nb : ℕ → List ℕ) (n top : ℕ) (presets degrees : List ℕ) (known : (v : ℕ) → v < n → getD degrees v 0 ≡ length (nb v)) (few : (v : ℕ) → v < n → length (nb v) < top) (l : length presets ≡ n) where
+  pub items-countable : n ≤ 65535 → n ≤ length degrees → Countable degrees presets top
+  items-countable b h = record {
+    known = omega arith;
+    items = omega arith;
+    below = λ v i. let i′ : v < n = omega arith in omega (arith, known v i′, few v i′);
+  }
+
+  pub items-order : (order : List ℕ) → order ≡ fallingBuckets (degreeIn degrees) top (uncolored presets (length presets)) → order ≡ degreeOrder nb n presets
+  unfolding degreeIn degreeAmong
+  items-order order e =
+      e
+      ∙ (ap (λ (i : ℕ). fallingBuckets (degreeIn degrees) top (uncolored presets i)) l
+      ∙ (falling-same (degreeIn degrees) (degreeAmong nb) top (uncolored presets n) (λ v p. known v (uncolored-member presets n v p .0))
+      ∙ sym (order-buckets nb n presets top (λ v h. omega (arith, degree-among nb v, few v h)))))
+
+-- ---- the nodes' order
+
 module _ (n : ℕ) (ends starts entries : List ℕ) (passed : Passed n ends) (table : Table ends n starts entries) where
   stretch-degree : (v : ℕ) → v < n → length (stretch starts entries v) ≡ length (neighbors ends (edgeCount ends) v)
   unfolding degree
@@ -43,26 +63,18 @@ module _ (n : ℕ) (ends starts entries : List ℕ) (passed : Passed n ends) (ta
   pub stretch-few : (v : ℕ) → v < n → length (stretch starts entries v) ≤ 4096
   stretch-few v h = omega (arith, stretch-degree v h, passed-degree n ends passed v)
 
-  -- ---- the order
-
   module _ (presets degrees : List ℕ) (known : (v : ℕ) → v < n → getD degrees v 0 ≡ length (stretch starts entries v)) (l : length presets ≡ n) where
+    node-degree : (v : ℕ) → v < n → getD degrees v 0 ≡ length (neighbors ends (edgeCount ends) v)
+    node-degree v h = known v h ∙ stretch-degree v h
+
+    node-few : (v : ℕ) → v < n → length (neighbors ends (edgeCount ends) v) < 4097
+    node-few v h = omega (arith, passed-degree n ends passed v)
+
     pub nodes-countable : n ≤ length degrees → Countable degrees presets 4097
-    nodes-countable h = record {
-      known = omega arith;
-      items = omega (arith, passed .nodes);
-      below = λ v b. let b′ : v < n = omega arith in omega (arith, known v b′, stretch-few v b′);
-    }
+    nodes-countable h = items-countable (neighbors ends (edgeCount ends)) n 4097 presets degrees node-degree node-few l (omega (arith, passed .nodes)) h
 
     pub order-found : (order : List ℕ) → order ≡ fallingBuckets (degreeIn degrees) 4097 (uncolored presets (length presets)) → order ≡ degreeOrder (neighbors ends (edgeCount ends)) n presets
-    unfolding degreeIn degreeAmong
-    order-found order e =
-        e
-        ∙ (ap (λ (i : ℕ). fallingBuckets (degreeIn degrees) 4097 (uncolored presets i)) l
-        ∙ (falling-same (degreeIn degrees) (degreeAmong (neighbors ends (edgeCount ends))) 4097 (uncolored presets n) same
-        ∙ sym (order-buckets (neighbors ends (edgeCount ends)) n presets 4097 (λ v h. omega (arith, degree-among (neighbors ends (edgeCount ends)) v, passed-degree n ends passed v)))))
-      where
-        same : (v : ℕ) → Mem v (uncolored presets n) → getD degrees v 0 ≡ length (neighbors ends (edgeCount ends) v)
-        same v p = let h = uncolored-member presets n v p .0 in known v h ∙ stretch-degree v h
+    order-found = items-order (neighbors ends (edgeCount ends)) n 4097 presets degrees node-degree node-few l
 
 -- The order has only nodes.
 order-inside : (nb : ℕ → List ℕ) (n : ℕ) (presets order : List ℕ) → order ≡ degreeOrder nb n presets → (i : ℕ) → i < length order → getD order i 0 < n
@@ -76,7 +88,7 @@ turns-ready n ends starts entries presets order colors passed table e l = rw l (
 -- ---- turns
 
 module _ (nb : ℕ → List ℕ) where
-  turn-next : (order colors : List ℕ) (i c : ℕ) {r : List ℕ} → colorInOrder nb (drop i order) colors ≡ r → i < length order → c ≡ smallestFreeAt colors (nb (getD order i 0)) → colorInOrder nb (drop (i + 1) order) (set colors (getD order i 0) c) ≡ r
+  pub turn-next : (order colors : List ℕ) (i c : ℕ) {r : List ℕ} → colorInOrder nb (drop i order) colors ≡ r → i < length order → c ≡ smallestFreeAt colors (nb (getD order i 0)) → colorInOrder nb (drop (i + 1) order) (set colors (getD order i 0) c) ≡ r
   unfolding colorInOrder colorItem
   turn-next order colors i c e h p = rw (add-one i, p) (rw (drop-cons order i 0 h) at e)
 

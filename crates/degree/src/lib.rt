@@ -1,4 +1,4 @@
-// Greedy colouring of a graph's nodes by falling degree.
+// Greedy colouring by falling degree, of a graph's nodes and of its edges.
 ghost use mathlib.Core.Path.{_≡_};
 ghost use Prim.Native.Nat.{ℕ, _≤_, _<_};
 ghost use lib.ListN.{length, getD};
@@ -19,7 +19,10 @@ use graph::incidence_front;
 use greedy::check_nodes;
 use greedy::smallest_color;
 
+mod edges;
 mod order;
+
+pub use edges::color_edges;
 
 // How many edges stand at each node.
 fn node_degrees(n: usize, starts: &[u16], entries: &[u16], degrees: &mut [u16])
