@@ -1,17 +1,18 @@
 -- Each strategy's colours are greedy; and the call's answers, taken apart.
 use Prim.Native.Nat.{ℕ, _≤_}
 use mathlib.Core.List.{List, []}
-use mathlib.Core.Path.{_≡_, sym, ap, _∙_}
+use mathlib.Core.Path.{_≡_, sym, ap, subst, _∙_}
 use lib.ListN.{length, take, replicate, length-replicate}
 use lib.Seq.{length-take-le}
-use Rattle.lists.specs.Parts.{take-replicate}
 use Rattle.graph.specs.Report.{Report}
 use Rattle.graph.specs.Colored.{noColor}
+use Rattle.graph.specs.Edges.{edgeCount}
+use Rattle.graph.specs.CheckLaws.{Passed}
 use Rattle.greedy.specs.Degree.{degreeOrder, degreeColors}
 use Rattle.greedy.specs.TurnLaws.{in-order-greedy}
 use Rattle.greedy.specs.declared.ColoringStrategy.{ColoringStrategy}
-use Rattle.greedy.specs.Call.{Rule, ruleOf, greedyNodes, greedyNodesPlain, HolidayLookup, PageGrid}
-use Rattle.greedy.specs.CallerLaws.{GreedyRule, holiday-lookup, page-grid, nodes-plain-same, grid-without-presets}
+use Rattle.greedy.specs.Call.{Rule, ruleOf, greedyNodes, greedyNodesPlain, greedyEdges, greedyEdgesPlain, HolidayLookup, PageGrid, EdgesApart}
+use Rattle.greedy.specs.CallerLaws.{GreedyRule, holiday-lookup, page-grid, edges-apart, nodes-plain-same, edges-plain-same, grid-without-presets, apart-without-presets}
 use Rattle.greedy.specs.IndependentSet.{independentSetColors}
 use Rattle.independent_set.specs.IndependentSetLaws.{independent-set-greedy}
 use Rattle.degree.specs.OrderLaws.{order-member, member-order, order-nodup}
@@ -30,26 +31,27 @@ module _ (rule : Rule) (greedy : GreedyRule rule) (n : ℕ) (ends presets lent :
   pub with-presets : (r ≡ greedyNodes rule n ends presets lent .report) × ((colors ≡ greedyNodes rule n ends presets lent .colors) × (HolidayLookup n presets r colors × PageGrid n ends presets r colors))
   with-presets = (a, (b, (holiday-lookup rule greedy n ends presets lent r colors a b, page-grid rule greedy n ends presets lent r colors a b)))
 
--- ---- the call without presets: as many empty presets as there are colours, or 512 where there are more
+-- ---- the calls without presets: as many empty presets as there are colours, or as there may be items at most
 
-module _ (n : ℕ) (ends : List ℕ) (k : ℕ) (lent : List ℕ) (r : Report ℕ) (colors : List ℕ)
-    (a : r ≡ greedyNodes degreeColors n ends (replicate k noColor) lent .report) (b : colors ≡ greedyNodes degreeColors n ends (replicate k noColor) lent .colors) where
-  pub without-presets : (n ≤ 512 → length lent ≡ n → k ≡ n)
-      → (r ≡ greedyNodesPlain degreeColors n ends lent .report) × ((colors ≡ greedyNodesPlain degreeColors n ends lent .colors) × PageGrid n ends [] r colors)
-  without-presets as-many =
-      let p = nodes-plain-same degreeColors n ends (replicate k noColor) lent (λ h e. ap (λ (i : ℕ). replicate i noColor) (as-many (h .nodes) e)) in
-      (a ∙ p .0, (b ∙ p .1, grid-without-presets n ends r colors k (page-grid degreeColors degree-greedy n ends (replicate k noColor) lent r colors a b)))
+-- The lent part of the list of empty presets.
+pub presets-part : (k most : ℕ) → k ≤ most → k ≡ length (take k (replicate most noColor))
+presets-part k most h = sym (length-take-le k (replicate most noColor) (rw (length-replicate most noColor) h))
 
--- The lent part of the list of 512 empty presets.
-pub presets-part : (k : ℕ) → k ≤ 512 → k ≡ length (take k (replicate 512 noColor))
-presets-part k h = sym (length-take-le k (replicate 512 noColor) (rw (length-replicate 512 noColor) h))
+module _ (n : ℕ) (ends : List ℕ) (k : ℕ) (lent : List ℕ) (r : Report ℕ) (colors : List ℕ) where
+  module _ (presets : List ℕ) (e : presets ≡ replicate k noColor) where
+    pub nodes-without-presets : (Passed n ends → length lent ≡ n → k ≡ n) → r ≡ greedyNodes degreeColors n ends presets lent .report → colors ≡ greedyNodes degreeColors n ends presets lent .colors
+        → (r ≡ greedyNodesPlain degreeColors n ends lent .report) × ((colors ≡ greedyNodesPlain degreeColors n ends lent .colors) × PageGrid n ends [] r colors)
+    nodes-without-presets as-many a b =
+        let p = nodes-plain-same degreeColors n ends presets lent (λ h l. e ∙ ap (λ (i : ℕ). replicate i noColor) (as-many h l)) in
+        (a ∙ p .0, (b ∙ p .1, grid-without-presets n ends r colors k (subst (λ (x : List ℕ). PageGrid n ends x r colors) e (page-grid degreeColors degree-greedy n ends presets lent r colors a b))))
 
-module _ (n : ℕ) (ends : List ℕ) (k : ℕ) (lent : List ℕ) (r : Report ℕ) (colors : List ℕ)
-    (a : r ≡ greedyNodes degreeColors n ends (take k (replicate 512 noColor)) lent .report) (b : colors ≡ greedyNodes degreeColors n ends (take k (replicate 512 noColor)) lent .colors) where
-  pub as-many-presets : k ≡ length lent → k ≤ 512 → (r ≡ greedyNodesPlain degreeColors n ends lent .report) × ((colors ≡ greedyNodesPlain degreeColors n ends lent .colors) × PageGrid n ends [] r colors)
-  as-many-presets e h =
-      let t = take-replicate k 512 noColor h in
-      without-presets n ends k lent r colors (a ∙ ap (λ (p : List ℕ). greedyNodes degreeColors n ends p lent .report) t) (b ∙ ap (λ (p : List ℕ). greedyNodes degreeColors n ends p lent .colors) t) (λ m q. e ∙ q)
+    pub edges-without-presets : (Passed n ends → length lent ≡ edgeCount ends → k ≡ edgeCount ends) → r ≡ greedyEdges degreeColors n ends presets lent .report → colors ≡ greedyEdges degreeColors n ends presets lent .colors
+        → (r ≡ greedyEdgesPlain degreeColors n ends lent .report) × ((colors ≡ greedyEdgesPlain degreeColors n ends lent .colors) × EdgesApart ends [] r colors)
+    edges-without-presets as-many a b =
+        let p = edges-plain-same degreeColors n ends presets lent (λ h l. e ∙ ap (λ (i : ℕ). replicate i noColor) (as-many h l)) in
+        (a ∙ p .0, (b ∙ p .1, apart-without-presets ends r colors k (subst (λ (x : List ℕ). EdgesApart ends x r colors) e (edges-apart degreeColors degree-greedy n ends presets lent r colors a b))))
+
+-- ---- the calls by a strategy
 
 -- A call by the strategy that the caller named.
 pub by-strategy : (strategy known : ColoringStrategy) → strategy ≡ known → GreedyRule (ruleOf known) → (n : ℕ) (ends presets lent : List ℕ) (r : Report ℕ) (colors : List ℕ)

@@ -1,9 +1,9 @@
-// Greedy node colouring: the three public calls.
+// Greedy colouring: the three public calls for nodes, and the calls for edges.
 ghost use mathlib.Core.Path.{_≡_};
 ghost use mathlib.Core.List.{[]};
 ghost use Rattle.graph.specs.Report.{reportOfColoring};
 ghost use Rattle.greedy.specs.Degree.{degreeColors};
-ghost use Rattle.greedy.specs.Call.{ruleOf, greedyNodes, greedyNodesPlain, HolidayLookup, PageGrid};
+ghost use Rattle.greedy.specs.Call.{ruleOf, greedyNodes, greedyNodesPlain, greedyEdgesPlain, HolidayLookup, PageGrid, EdgesApart};
 use graph::Color;
 use graph::Coloring;
 use graph::Graph;
@@ -52,5 +52,20 @@ pub fn greedy_node_color_with_coloring_strategy(
         ColoringStrategy::Degree => degree::color_nodes(n, ends, presets, colors),
         ColoringStrategy::Saturation => saturation::color_nodes(n, ends, presets, colors),
         ColoringStrategy::IndependentSet => independent_set::color_nodes(n, ends, presets, colors),
+    }
+}
+
+// The edges by Degree without presets, in the same way.
+pub fn greedy_edge_color(n: usize, ends: &[u16], colors: &mut [u16]) -> Coloring
+    ensures { λ r. ⌜ reportOfColoring r ≡ greedyEdgesPlain degreeColors n (now (ends .entry)) (now (colors .entry)) .report ⌝ }
+    ensures { λ _. ⌜ now (colors .exit) ≡ greedyEdgesPlain degreeColors n (now (ends .entry)) (now (colors .entry)) .colors ⌝ }
+    ensures apart { λ r. ⌜ EdgesApart (now (ends .entry)) [] (reportOfColoring r) (now (colors .exit)) ⌝ }
+{
+    let presets = [Color::NONE; 4096];
+    let lent = colors.len();
+    if lent <= Graph::MAX_EDGES {
+        degree::color_edges(n, ends, &presets[..lent], colors)
+    } else {
+        degree::color_edges(n, ends, &presets, colors)
     }
 }

@@ -23,7 +23,7 @@ use Rattle.greedy.specs.Turn.{uncolored, colorItem}
 use Rattle.greedy.specs.Degree.{insertByDegree, byDegree, colorInOrder, degreeOrder, degreeColors}
 use Rattle.greedy.specs.Saturation.{uncoloredAmong, saturation, uncoloredNeighbors, greater, greatest, saturationFrom, saturationColors, noneGreater, legalTurn, legalRun}
 use Rattle.greedy.specs.IndependentSet.{placeOf, takeOut, putOff, putOffAll, putOffPresets, colorListed, round, rounds, independentSetColors}
-use Rattle.greedy.specs.Call.{ruleOf, itemChecks, greedyItems, greedyItemsPlain, greedyNodes, greedyNodesPlain}
+use Rattle.greedy.specs.Call.{ruleOf, itemChecks, greedyItems, greedyItemsPlain, greedyNodes, greedyNodesPlain, edgeNeighbors, greedyEdgesPlain}
 use Rattle.vizing.specs.MisraGries.{edgeOfColor, isFree, store, joins, firstJoining, growFan, lastFarEnd, path, swap, exchange, placesTo, rotate, greatestColor, find, step, stepHeld, heldAfter, held, hasLoop, sameEnds, hasDoubleEdge, misraGriesChecks, misraGries}
 
 -- Which call a row is of. A row of `saturation-run` says instead that a run in this order is legal and gives these colours.
@@ -34,6 +34,7 @@ pub data Call : Type 0 where
   greedy-node-color-with-coloring-strategy : ColoringStrategy → Call
   saturation-run : List ℕ → Call
   line-graph : Call
+  greedy-edge-color : Call
   misra-gries-edge-color : Call
 
 -- A row: the call, n, the edges' ends, the presets if the call takes any, the colour slice (the line list) as lent, and what 01 says of the report and of the slice afterwards.
@@ -66,6 +67,7 @@ holds r =
       | greedy-node-color-with-coloring-strategy strategy ↦ meets r (greedyNodes (ruleOf strategy) (r .n) (r .ends) (r .presets) (r .lent))
       | saturation-run order ↦ legalRun (neighbors (r .ends) (edgeCount (r .ends))) (r .n) (r .presets) order (r .colors)
       | line-graph ↦ let o = lineGraph (r .n) (r .ends) (r .lent) in sameReport (o .report) (r .report) && equal (o .list) (r .colors)
+      | greedy-edge-color ↦ meets r (greedyEdgesPlain degreeColors (r .n) (r .ends) (r .lent))
       | misra-gries-edge-color ↦ meets r (misraGries (r .n) (r .ends) (r .lent))
     ]
 
@@ -107,6 +109,8 @@ rows =
     ∷ record { call = line-graph; n = 4; ends = 0 ∷ 1 ∷ 0 ∷ 2 ∷ 1 ∷ 2 ∷ 0 ∷ 3 ∷ []; presets = []; lent = 1 ∷ 2 ∷ 3 ∷ 4 ∷ 5 ∷ 6 ∷ 7 ∷ 8 ∷ 9 ∷ []; report = refused 9; colors = 1 ∷ 2 ∷ 3 ∷ 4 ∷ 5 ∷ 6 ∷ 7 ∷ 8 ∷ 9 ∷ [] }
     -- line list of (0,1),(2,0): (0,1), and what is lent beyond it stays; sees the two incidence groups mixed into one
     ∷ record { call = line-graph; n = 3; ends = 0 ∷ 1 ∷ 2 ∷ 0 ∷ []; presets = []; lent = 7 ∷ 8 ∷ 9 ∷ []; report = accepted 1; colors = 0 ∷ 1 ∷ 9 ∷ [] }
+    -- P12: (0,1),(1,2),(0,2),(2,3): 2,0,1,2
+    ∷ record { call = greedy-edge-color; n = 4; ends = 0 ∷ 1 ∷ 1 ∷ 2 ∷ 0 ∷ 2 ∷ 2 ∷ 3 ∷ []; presets = []; lent = 9 ∷ 9 ∷ 9 ∷ 9 ∷ []; report = accepted 3; colors = 2 ∷ 0 ∷ 1 ∷ 2 ∷ [] }
     -- P13: (0,1),(1,2),(0,2),(2,3): 2,1,0,2
     ∷ record { call = misra-gries-edge-color; n = 4; ends = 0 ∷ 1 ∷ 1 ∷ 2 ∷ 0 ∷ 2 ∷ 2 ∷ 3 ∷ []; presets = []; lent = 9 ∷ 9 ∷ 9 ∷ 9 ∷ []; report = accepted 3; colors = 2 ∷ 1 ∷ 0 ∷ 2 ∷ [] }
     -- P14: (0,1),(1,0): 7
@@ -122,5 +126,5 @@ rows =
     ∷ []
 
 pub examples : all rows ≡ true
-unfolding all rows holds meets pairsWith pairsOf linePairs lineChecks lineGraph itemChecks greedyItems greedyItemsPlain equal sameReport neighbors uncolored colorItem insertByDegree byDegree colorInOrder degreeOrder degreeColors uncoloredAmong saturation uncoloredNeighbors greater greatest saturationFrom saturationColors noneGreater legalTurn legalRun placeOf takeOut putOff putOffAll putOffPresets colorListed round rounds independentSetColors greedyNodes greedyNodesPlain distinct different twoColor inputChecks colored daysOf sides tabulate sideColor oddCycle oddSide lowest givesWay lower firstEnd secondEnd graphChecks firstRefusal answered written allBelow xor elem any isLoop farEnd secondAt firstEdges secondEdges edgesAt smallestFree smallestFrom colorOf isColored edgeOfColor isFree coloredAmong smallestFreeAt store joins firstJoining growFan lastFarEnd path swap exchange placesTo rotate greatestColor find step stepHeld heldAfter held hasLoop sameEnds hasDoubleEdge misraGriesChecks misraGries
+unfolding all rows holds meets pairsWith pairsOf linePairs lineChecks lineGraph itemChecks greedyItems greedyItemsPlain equal sameReport neighbors uncolored colorItem insertByDegree byDegree colorInOrder degreeOrder degreeColors uncoloredAmong saturation uncoloredNeighbors greater greatest saturationFrom saturationColors noneGreater legalTurn legalRun placeOf takeOut putOff putOffAll putOffPresets colorListed round rounds independentSetColors greedyNodes greedyNodesPlain edgeNeighbors greedyEdgesPlain distinct different twoColor inputChecks colored daysOf sides tabulate sideColor oddCycle oddSide lowest givesWay lower firstEnd secondEnd graphChecks firstRefusal answered written allBelow xor elem any isLoop farEnd secondAt firstEdges secondEdges edgesAt smallestFree smallestFrom colorOf isColored edgeOfColor isFree coloredAmong smallestFreeAt store joins firstJoining growFan lastFarEnd path swap exchange placesTo rotate greatestColor find step stepHeld heldAfter held hasLoop sameEnds hasDoubleEdge misraGriesChecks misraGries
 examples = refl

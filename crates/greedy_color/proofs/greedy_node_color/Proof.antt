@@ -1,19 +1,21 @@
 -- `greedy_node_color` meets its contract: empty presets as many as the colours are as good as none.
 use mathlib.Core.Path.{refl}
 use native.Mathlib.Omega.{arith}
+use lib.ListN.{length}
 use borrow.Author.Needs.{needs}
-use Rattle.greedy_color.specs.Rules.{presets-part, as-many-presets, without-presets}
+use Rattle.lists.specs.Parts.{take-replicate}
+use Rattle.greedy_color.specs.Rules.{presets-part, nodes-without-presets}
 use Rattle.greedy_color.proofs.greedy_node_color.Statement.{statement}
 use Rattle.greedy_color.proofs.greedy_node_color.Tie as tie
 
 slice-aggregate-color-nodes : tie.Need-slice-aggregate-color-nodes
-slice-aggregate-color-nodes c = presets-part _ (omega arith)
+slice-aggregate-color-nodes c = presets-part _ 512 (omega arith)
 
 returns : tie.Need-returns
-returns c = as-many-presets _ _ _ _ _ _ (c .before .before .color-nodes .ensures .0) (c .before .before .color-nodes .ensures .1) refl (omega arith)
+returns c = let k = length (c .before .before .before .before .before .before .before .before .args .colors .now) in nodes-without-presets _ _ k _ _ _ _ (take-replicate k 512 65535 (omega arith)) (λ h e. e) (c .before .before .color-nodes .ensures .0) (c .before .before .color-nodes .ensures .1)
 
 returns-2 : tie.Need-returns-2
-returns-2 c = without-presets _ _ 512 _ _ _ (c .before .before .color-nodes2 .ensures .0) (c .before .before .color-nodes2 .ensures .1) (λ h e. omega arith)
+returns-2 c = nodes-without-presets _ _ 512 _ _ _ _ refl (λ h e. omega (arith, h .nodes)) (c .before .before .color-nodes2 .ensures .0) (c .before .before .color-nodes2 .ensures .1)
 
 pub greedy-node-color-spec : {M : Type 1} → statement M
 greedy-node-color-spec =
