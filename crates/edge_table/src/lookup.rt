@@ -1,6 +1,10 @@
 // What the table says of a node and a colour.
-use crate::{EdgeOfColor, EdgeTable, Entry};
-use graph::{Color, EdgeIndex, NodeIndex};
+use crate::EdgeOfColor;
+use crate::EdgeTable;
+use crate::Entry;
+use graph::Color;
+use graph::EdgeIndex;
+use graph::NodeIndex;
 ghost use mathlib.Core.Path.{_≡_};
 ghost use Rattle.edge_table.specs.EdgeTable.{optionOf, entryAt, tableEdge, isEmpty, smallestEmpty};
 

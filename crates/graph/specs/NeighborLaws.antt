@@ -77,19 +77,19 @@ module _ (ends : List ℕ) where
       elim (dec-eq (firstEnd ends m) v) [
         | inl a ↦ elim (dec-eq (secondEnd ends m) w) [
           | inl b ↦
-            let x = far-first ends m v a ∙ b in
-            let y = far-second ends m w b ∙ a in
-            rw (first-more ends m v a, second-more ends m w b (λ e. n (sym a ∙ e)), x, y, count-here w, count-here v) (ap suc i)
+              let x = far-first ends m v a ∙ b in
+              let y = far-second ends m w b ∙ a in
+              rw (first-more ends m v a, second-more ends m w b (λ e. n (sym a ∙ e)), x, y, count-here w, count-here v) (ap suc i)
           | inr b ↦
-            let x = far-first ends m v a in
-            rw (first-more ends m v a, second-same ends m w (second-at-other ends m w b)) (count-there w (farEnd ends m v) _ (λ e. b (sym x ∙ sym e)) ∙ i)
+              let x = far-first ends m v a in
+              rw (first-more ends m v a, second-same ends m w (second-at-other ends m w b)) (count-there w (farEnd ends m v) _ (λ e. b (sym x ∙ sym e)) ∙ i)
         ]
         | inr a ↦ elim (dec-eq (secondEnd ends m) w) [
           | inl b ↦ elim (dec-eq (firstEnd ends m) w) [
             | inl c ↦ rw (first-same ends m v a, second-same ends m w (loop-not-second ends m w (c ∙ sym b))) i
             | inr c ↦
-              let y = far-second ends m w b in
-              rw (first-same ends m v a, second-more ends m w b c) (i ∙ sym (count-there v (farEnd ends m w) _ (λ e. a (sym y ∙ sym e))))
+                let y = far-second ends m w b in
+                rw (first-same ends m v a, second-more ends m w b c) (i ∙ sym (count-there v (farEnd ends m w) _ (λ e. a (sym y ∙ sym e))))
           ]
           | inr b ↦ rw (first-same ends m v a, second-same ends m w (second-at-other ends m w b)) i
         ]

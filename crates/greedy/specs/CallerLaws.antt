@@ -134,17 +134,17 @@ module _ (rule : Rule) (nb : ℕ → List ℕ) (items n : ℕ) (ends presets len
           (sym (x .0) ∙ y .0, sym (x .1) ∙ y .1)
       go none e = elim (dec-eq (length lent) items) [
         | inr d ↦
-          let t = ne-eqb (length lent) items d in
-          let x = items-refused nb items n ends presets lent rule 5 (passed-first (graphChecks n ends) ((not (eqb (length lent) items && eqb (length presets) items) gives 5) ∷ []) e ∙ first-refuses (not (eqb (length lent) items && eqb (length presets) items)) 5 [] (simp t)) in
-          let y = plain-refused 5 (passed-first (graphChecks n ends) (lengthCheck (length lent) items ∷ []) e ∙ first-refuses (not (eqb (length lent) items)) 5 [] (simp t)) in
-          (sym (x .0) ∙ y .0, sym (x .1) ∙ y .1)
+            let t = ne-eqb (length lent) items d in
+            let x = items-refused nb items n ends presets lent rule 5 (passed-first (graphChecks n ends) ((not (eqb (length lent) items && eqb (length presets) items) gives 5) ∷ []) e ∙ first-refuses (not (eqb (length lent) items && eqb (length presets) items)) 5 [] (simp t)) in
+            let y = plain-refused 5 (passed-first (graphChecks n ends) (lengthCheck (length lent) items ∷ []) e ∙ first-refuses (not (eqb (length lent) items)) 5 [] (simp t)) in
+            (sym (x .0) ∙ y .0, sym (x .1) ∙ y .1)
         | inl l ↦
-          let q : presets ≡ replicate items noColor = none-preset (passed n ends e) l in
-          let t = eq-eqb (length lent) items l in
-          let s = eq-eqb (length presets) items (ap length q ∙ length-replicate items noColor) in
-          let x = items-accepted nb items n ends presets lent rule (passed-first (graphChecks n ends) ((not (eqb (length lent) items && eqb (length presets) items) gives 5) ∷ []) e ∙ (first-passes (not (eqb (length lent) items && eqb (length presets) items)) 5 [] (simp (t, s)) ∙ all-passed)) _ (rule nb items (replicate items noColor)) (ap (rule nb items) (sym q)) refl in
-          let y = plain-accepted (passed-first (graphChecks n ends) (lengthCheck (length lent) items ∷ []) e ∙ (first-passes (not (eqb (length lent) items)) 5 [] (simp t) ∙ all-passed)) in
-          (sym (x .0) ∙ y .0, sym (x .1) ∙ y .1)
+            let q : presets ≡ replicate items noColor = none-preset (passed n ends e) l in
+            let t = eq-eqb (length lent) items l in
+            let s = eq-eqb (length presets) items (ap length q ∙ length-replicate items noColor) in
+            let x = items-accepted nb items n ends presets lent rule (passed-first (graphChecks n ends) ((not (eqb (length lent) items && eqb (length presets) items) gives 5) ∷ []) e ∙ (first-passes (not (eqb (length lent) items && eqb (length presets) items)) 5 [] (simp (t, s)) ∙ all-passed)) _ (rule nb items (replicate items noColor)) (ap (rule nb items) (sym q)) refl in
+            let y = plain-accepted (passed-first (graphChecks n ends) (lengthCheck (length lent) items ∷ []) e ∙ (first-passes (not (eqb (length lent) items)) 5 [] (simp t) ∙ all-passed)) in
+            (sym (x .0) ∙ y .0, sym (x .1) ∙ y .1)
       ]
 
 pub nodes-plain-same : (rule : Rule) (n : ℕ) (ends presets lent : List ℕ) → (Passed n ends → length lent ≡ n → presets ≡ replicate n noColor)

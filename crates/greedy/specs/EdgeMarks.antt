@@ -93,13 +93,13 @@ module _ (n : ℕ) (ends colors : List ℕ) (k : ℕ) (p : Passed n ends) (h : k
   smallest-both : colorOf colors k ≡ noColor → smallest ≡ smallestFrom 4096 both 0
   smallest-both none = smallest-from 4096 both 0 smallest (omega arith) (omega (arith, smallest-few, p .edges))
       (λ c l b.
-          let r = smaller-stands colors (edgeNeighbors n ends k) c b in
-          let s = line-neighbor-member ends m k (r .0) (subst (Mem (r .0)) (edge-neighbors n ends p k h) (r .1)) in
-          subst (λ (x : ℕ). Mem x both) (r .2) (on-both (r .0) (s .2 .0) (s .0) (s .2 .1) (s .2 .2)))
+      let r = smaller-stands colors (edgeNeighbors n ends k) c b in
+      let s = line-neighbor-member ends m k (r .0) (subst (Mem (r .0)) (edge-neighbors n ends p k h) (r .1)) in
+      subst (λ (x : ℕ). Mem x both) (r .2) (on-both (r .0) (s .2 .0) (s .0) (s .2 .1) (s .2 .2)))
       (λ b q.
-          let r = both-on smallest q in
-          let d : k ≢ r .0 = λ e. omega (arith, none, ap (colorOf colors) e, r .5, smallest-few, p .edges) in
-          smallest-none-has colors (edgeNeighbors n ends k) few (r .0) (sharing-neighbor n ends p k (r .0) (r .1) h (r .2) d (r .3) (r .4)) (r .5))
+      let r = both-on smallest q in
+      let d : k ≢ r .0 = λ e. omega (arith, none, ap (colorOf colors) e, r .5, smallest-few, p .edges) in
+      smallest-none-has colors (edgeNeighbors n ends k) few (r .0) (sharing-neighbor n ends p k (r .0) (r .1) h (r .2) d (r .3) (r .4)) (r .5))
 
 -- What `smallest_edge_color` finds at an edge without a colour is its smallest free one.
 pub smallest-color-edge : (n : ℕ) (ends starts entries colors : List ℕ) (k r : ℕ) → Passed n ends → Table ends n starts entries → k < edgeCount ends → colorOf colors k ≡ noColor

@@ -62,6 +62,10 @@ pub greedy-bound : (nb : ℕ → List ℕ) (n : ℕ) (presets colors : List ℕ)
 unfolding different
 greedy-bound nb n presets colors g v h e =
     let ws = distinct (others v (nb v)) in
-    omega (arith, length-map ws (colorOf colors), cover-bound (colorOf colors v) (map (colorOf colors) ws) (λ c b.
-        let r = g .supported v h e c b in
-        subst (λ (x : ℕ). Mem x (map (colorOf colors) ws)) (r .3) (mem-map (colorOf colors) (r .0) ws (member-distinct (others v (nb v)) (r .0) (other-member v (r .0) (nb v) (r .1) (r .2))))))
+    omega (
+      arith,
+      length-map ws (colorOf colors),
+      cover-bound (colorOf colors v) (map (colorOf colors) ws) (λ c b.
+          let r = g .supported v h e c b in
+          subst (λ (x : ℕ). Mem x (map (colorOf colors) ws)) (r .3) (mem-map (colorOf colors) (r .0) ws (member-distinct (others v (nb v)) (r .0) (other-member v (r .0) (nb v) (r .1) (r .2))))),
+    )

@@ -137,10 +137,10 @@ module _ (nb : ℕ → List ℕ) where
     from-keeps (suc turns) colors l x d = elim (empty-or-not (uncolored colors n)) [
       | inl e ↦ ap (λ (c : List ℕ). colorOf c x) (from-done n (suc turns) colors e)
       | inr (v, vs, e) ↦
-        let u = greatest nb colors v vs in
-        let t = turn colors v vs e in
-        let o = turn-other nb n hood colors l u (t .inside) x (λ q. d (ap (colorOf colors) q ∙ t .none)) in
-        rw (from-next n turns colors v vs e) (from-keeps turns (colorItem nb colors u) (turn-size nb n hood colors l u (t .inside)) x (λ z. d (sym o ∙ z)) ∙ o)
+          let u = greatest nb colors v vs in
+          let t = turn colors v vs e in
+          let o = turn-other nb n hood colors l u (t .inside) x (λ q. d (ap (colorOf colors) q ∙ t .none)) in
+          rw (from-next n turns colors v vs e) (from-keeps turns (colorItem nb colors u) (turn-size nb n hood colors l u (t .inside)) x (λ z. d (sym o ∙ z)) ∙ o)
     ]
 
     all-colored : (turns : ℕ) (presets colors : List ℕ) → Partial nb n presets colors → uncolored colors n ≡ [] → Greedy nb n presets (saturationFrom nb n turns colors)
@@ -152,9 +152,9 @@ module _ (nb : ℕ → List ℕ) where
     from-partial (suc turns) presets colors p h = elim (empty-or-not (uncolored colors n)) [
       | inl e ↦ all-colored (suc turns) presets colors p e
       | inr (v, vs, e) ↦
-        let u = greatest nb colors v vs in
-        let t = turn colors v vs e in
-        rw (from-next n turns colors v vs e) (from-partial turns presets (colorItem nb colors u) (partial-turn nb n hood presets colors u (t .inside) (t .none) p) (omega (arith, turn-less colors u (p .size) t)))
+          let u = greatest nb colors v vs in
+          let t = turn colors v vs e in
+          rw (from-next n turns colors v vs e) (from-partial turns presets (colorItem nb colors u) (partial-turn nb n hood presets colors u (t .inside) (t .none) p) (omega (arith, turn-less colors u (p .size) t)))
     ]
 
     -- ---- the run is legal
@@ -179,13 +179,13 @@ module _ (nb : ℕ → List ℕ) where
     legal-from (suc turns) colors l h = elim (empty-or-not (uncolored colors n)) [
       | inl e ↦ legal-done (suc turns) colors e
       | inr (v, vs, e) ↦
-        let u = greatest nb colors v vs in
-        let t = turn colors v vs e in
-        let size = turn-size nb n hood colors l u (t .inside) in
-        let here = turn-here nb n hood colors l u (t .inside) in
-        let keeps = from-keeps turns (colorItem nb colors u) size u (λ z. turn-color nb n hood colors l u (t .inside) (sym here ∙ z)) in
-        rw (order-next n turns colors v vs e, from-next n turns colors v vs e) (legal-next colors u (orderFrom nb n turns (colorItem nb colors u)) (saturationFrom nb n turns (colorItem nb colors u)) t (keeps ∙ here)
-            (legal-from turns (colorItem nb colors u) size (omega (arith, turn-less colors u l t))))
+          let u = greatest nb colors v vs in
+          let t = turn colors v vs e in
+          let size = turn-size nb n hood colors l u (t .inside) in
+          let here = turn-here nb n hood colors l u (t .inside) in
+          let keeps = from-keeps turns (colorItem nb colors u) size u (λ z. turn-color nb n hood colors l u (t .inside) (sym here ∙ z)) in
+          rw (order-next n turns colors v vs e, from-next n turns colors v vs e) (legal-next colors u (orderFrom nb n turns (colorItem nb colors u)) (saturationFrom nb n turns (colorItem nb colors u)) t (keeps ∙ here)
+          (legal-from turns (colorItem nb colors u) size (omega (arith, turn-less colors u l t))))
     ]
 
     -- The port's run is legal: in the order of its turns it gives its answer.

@@ -101,15 +101,15 @@ module _ (nb : ℕ → List ℕ) (n : ℕ) (hood : Neighborhood nb n) where
       supported : (u : ℕ) → u < n → colorOf presets u ≡ noColor → colorOf (colorItem nb colors v) u ≢ noColor → (b : ℕ) → b < colorOf (colorItem nb colors v) u → (w : ℕ) × Mem w (nb u) × (w ≢ u) × (colorOf (colorItem nb colors v) w ≡ b)
       supported u k e a b less = elim (dec-eq u v) [
         | inl x ↦
-          let less′ : b < smallestFreeAt colors (nb v) = omega (arith, less, ap (colorOf (colorItem nb colors v)) x, here) in
-          let r = smaller-stands colors (nb v) b less′ in
-          let d : r .0 ≢ v = λ y. omega (arith, r .2, ap (colorOf colors) y, none, smallest-free-bound colors (nb v), hood .few v h) in
-          (r .0, subst (λ (y : ℕ). Mem (r .0) (nb y)) (sym x) (r .1), λ y. d (y ∙ x), other (r .0) d ∙ r .2)
+            let less′ : b < smallestFreeAt colors (nb v) = omega (arith, less, ap (colorOf (colorItem nb colors v)) x, here) in
+            let r = smaller-stands colors (nb v) b less′ in
+            let d : r .0 ≢ v = λ y. omega (arith, r .2, ap (colorOf colors) y, none, smallest-free-bound colors (nb v), hood .few v h) in
+            (r .0, subst (λ (y : ℕ). Mem (r .0) (nb y)) (sym x) (r .1), λ y. d (y ∙ x), other (r .0) d ∙ r .2)
         | inr x ↦
-          let r = p .supported u k e (λ z. a (other u x ∙ z)) b (rw (other u x) at less) in
-          let low = p .low u k e in
-          let d : r .0 ≢ v = λ y. omega (arith, r .3, ap (colorOf colors) y, none, less, other u x, low) in
-          (r .0, r .1, r .2, other (r .0) d ∙ r .3)
+            let r = p .supported u k e (λ z. a (other u x ∙ z)) b (rw (other u x) at less) in
+            let low = p .low u k e in
+            let d : r .0 ≢ v = λ y. omega (arith, r .3, ap (colorOf colors) y, none, less, other u x, low) in
+            (r .0, r .1, r .2, other (r .0) d ∙ r .3)
       ]
 
   -- ---- one after the other
@@ -130,7 +130,7 @@ module _ (nb : ℕ → List ℕ) (n : ℕ) (hood : Neighborhood nb n) where
   in-order-partial presets (v ∷ order) colors p u waiting =
       let w = waiting v (inl refl) in
       let later = in-order-partial presets order (colorItem nb colors v) (partial-turn presets colors v (w .0) (w .1) p) (u .1)
-          (λ x q. (waiting x (inr q) .0, turn-other colors (p .size) v (w .0) x (λ e. u .0 (rw e at q)) ∙ waiting x (inr q) .1)) in
+      (λ x q. (waiting x (inr q) .0, turn-other colors (p .size) v (w .0) x (λ e. u .0 (rw e at q)) ∙ waiting x (inr q) .1)) in
       let mine = in-order-other order (colorItem nb colors v) (turn-size colors (p .size) v (w .0)) (λ x q. waiting x (inr q) .0) v (u .0) ∙ turn-here colors (p .size) v (w .0) in
       (later .0, λ x q. elim q [ inl e ↦ rw e (λ z. turn-color colors (p .size) v (w .0) (sym mine ∙ z)) | inr r ↦ later .1 x r ])
 

@@ -29,8 +29,8 @@ unfolding uncolored
 uncolored-member colors (suc n) v p = elim (mem-append v (uncolored colors n) (keep (not (isColored colors n)) n []) p) [
   | inl q ↦ let r = uncolored-member colors n v q in (omega (arith, r .0), r .1)
   | inr q ↦ by-test (isColored colors n)
-    (λ t. absurd (rw t at q))
-    (λ t. elim (rw t at q) [ inl e ↦ (omega arith, ap (colorOf colors) e ∙ is-colored-false colors n t) | inr z ↦ absurd z ])
+      (λ t. absurd (rw t at q))
+      (λ t. elim (rw t at q) [ inl e ↦ (omega arith, ap (colorOf colors) e ∙ is-colored-false colors n t) | inr z ↦ absurd z ])
 ]
 
 pub member-uncolored : (colors : List ℕ) (n v : ℕ) → v < n → colorOf colors v ≡ noColor → Mem v (uncolored colors n)
@@ -63,6 +63,6 @@ uncolored-less colors n v c l p d =
     (λ k q. elim q [
       | inl e ↦ rw e p
       | inr r ↦
-        let s = uncolored-member (set colors v c) n k r in
-        elim (dec-eq k v) [ inl e ↦ rw e p | inr e ↦ member-uncolored colors n k (s .0) (sym (color-set-other colors v c k e) ∙ s .1) ]
+          let s = uncolored-member (set colors v c) n k r in
+          elim (dec-eq k v) [ inl e ↦ rw e p | inr e ↦ member-uncolored colors n k (s .0) (sym (color-set-other colors v c k e) ∙ s .1) ]
     ])

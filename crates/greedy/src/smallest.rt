@@ -66,7 +66,13 @@ fn first_unmarked(marks: &[u8]) -> usize
 }
 
 // The smallest colour that no neighbour has, of the first 512: a node has fewer different other neighbours.
-pub fn smallest_color(ends: &[u16], starts: &[u16], entries: &[u16], colors: &[u16], node: NodeIndex) -> Color
+pub fn smallest_color(
+    ends: &[u16],
+    starts: &[u16],
+    entries: &[u16],
+    colors: &[u16],
+    node: NodeIndex,
+) -> Color
     ensures { λ r. ⌜ r .0 ≡ smallestFrom 512 (farColors (now (ends .entry)) (now (colors .entry)) (node .0) (stretch (now (starts .entry)) (now (entries .entry)) (node .0))) 0 ⌝ }
 {
     let mut marks = [0u8; 512];
@@ -88,7 +94,13 @@ fn mark_colors(edges: &[u16], colors: &[u16], marks: &mut [u8])
 }
 
 // The smallest colour that no edge at either end has, of the first 4,096: there are no more edges.
-pub fn smallest_edge_color(ends: &[u16], starts: &[u16], entries: &[u16], colors: &[u16], edge: EdgeIndex) -> Color
+pub fn smallest_edge_color(
+    ends: &[u16],
+    starts: &[u16],
+    entries: &[u16],
+    colors: &[u16],
+    edge: EdgeIndex,
+) -> Color
     ensures { λ r. ⌜ r .0 ≡ smallestFrom 4096 (colorsOf (now (colors .entry)) (stretch (now (starts .entry)) (now (entries .entry)) (firstEnd (now (ends .entry)) (edge .0)))
         ++ colorsOf (now (colors .entry)) (stretch (now (starts .entry)) (now (entries .entry)) (secondEnd (now (ends .entry)) (edge .0)))) 0 ⌝ }
 {

@@ -26,7 +26,12 @@ pub fn greedy_node_color(n: usize, ends: &[u16], colors: &mut [u16]) -> Coloring
 }
 
 // Degree with presets.
-pub fn greedy_node_color_with_preset_colors(n: usize, ends: &[u16], presets: &[u16], colors: &mut [u16]) -> Coloring
+pub fn greedy_node_color_with_preset_colors(
+    n: usize,
+    ends: &[u16],
+    presets: &[u16],
+    colors: &mut [u16],
+) -> Coloring
     ensures { λ r. ⌜ reportOfColoring r ≡ greedyNodes degreeColors n (now (ends .entry)) (now (presets .entry)) (now (colors .entry)) .report ⌝ }
     ensures { λ _. ⌜ now (colors .exit) ≡ greedyNodes degreeColors n (now (ends .entry)) (now (presets .entry)) (now (colors .entry)) .colors ⌝ }
     ensures holidays { λ r. ⌜ HolidayLookup n (now (presets .entry)) (reportOfColoring r) (now (colors .exit)) ⌝ }

@@ -93,6 +93,8 @@ module _ (n : ℕ) (ends lent : List ℕ) where
   -- ---- demand 3
 
   pub date-table : (r : Report ℕ) (colors : List ℕ) → r ≡ misraGries n ends lent .report → colors ≡ misraGries n ends lent .colors → DateTable n ends lent r colors
-  date-table r colors p q = record { demand3 = λ a l.
-      let d = demand3 n ends lent a l in
-      record { accepts = rw p (d .accepts); accurate = rw q (d .accurate); first = d .first } }
+  date-table r colors p q = record {
+    demand3 = λ a l.
+        let d = demand3 n ends lent a l in
+        record { accepts = rw p (d .accepts); accurate = rw q (d .accurate); first = d .first };
+  }

@@ -63,7 +63,7 @@ running-start n ends starts entries marks N a rows size blank e = record {
   size = size;
   unmarked = λ j. omega (arith, blank j);
   edges = refl;
-  greatest = sym (greatest-blank (replicate 4096 noColor) (λ j h. color-replicate 4096 j))
+  greatest = sym (greatest-blank (replicate 4096 noColor) (λ j h. color-replicate 4096 j));
 }
 
 -- The same with the lists of the call.
@@ -87,7 +87,7 @@ module _ (n : ℕ) (ends starts entries work table marks : List ℕ) (t : Tally)
     kept = now-kept;
     tabled = running .tabled;
     size = running .size;
-    unmarked = running .unmarked
+    unmarked = running .unmarked;
   }
 
   pub running-more : (t′ : Tally) (work′ table′ marks′ : List ℕ) → k < edgeCount ends → Tallied n ends starts entries work table marks k t t′ work′ table′ marks′ → Running n ends starts entries work′ table′ marks′ t′ (k + 1)
@@ -107,7 +107,7 @@ module _ (n : ℕ) (ends starts entries work table marks : List ℕ) (t : Tally)
         size = omega (arith, e .size, running .size);
         unmarked = λ j. omega (arith, e .marked j);
         edges = ap (λ (x : Tally). x .edges) (s .noted) ∙ ap (λ (i : ℕ). i + 1) (running .edges);
-        greatest = ap (λ (x : Tally). x .greatest) (s .noted) ∙ (greater (t .greatest) (s .color) ∙ (ap (λ (i : ℕ). max i (s .color)) (running .greatest) ∙ (ap (max (greatestColor work)) (e .top) ∙ sym (ap greatestColor (e .list) ∙ g))))
+        greatest = ap (λ (x : Tally). x .greatest) (s .noted) ∙ (greater (t .greatest) (s .color) ∙ (ap (λ (i : ℕ). max i (s .color)) (running .greatest) ∙ (ap (max (greatestColor work)) (e .top) ∙ sym (ap greatestColor (e .list) ∙ g))));
       }
 
   -- All edges are done: the first m colours are the answer, and `days` comes from the tally.

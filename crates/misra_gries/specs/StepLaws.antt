@@ -39,9 +39,11 @@ module _ (ends l T : List ℕ) (n u c d : ℕ) (E : Exchanging ends n l T u c d)
       → (len ≡ length (path ends (edgeCount ends) n l u d c)) × ((l′ ≡ exchange l c d (path ends (edgeCount ends) n l u d c)) × TableOf ends (edgeCount ends) l′ T′)
   path-exchanged es out l′ T′ len p q r s =
       let e = p ∙ right-path in
-      let colors : take len out ≡ exchangedColors l c d es = ap (λ (i : ℕ). take i out) q ∙ r in
-      (q ∙ ap length e, exchange-done ends (edgeCount ends) l T (E .tabled) l′ T′ c d (path ends (edgeCount ends) n l u d c) (E .allowed)
-        (s ∙ (ap (repainted ends (state l T) es) colors ∙ ap (λ (ks : List ℕ). repainted ends (state l T) ks (exchangedColors l c d ks)) e)))
+      let colors : take len out ≡ exchangedColors l c d es = ap (λ (i : ℕ). take i out) q ∙ r in (
+        q ∙ ap length e,
+        exchange-done ends (edgeCount ends) l T (E .tabled) l′ T′ c d (path ends (edgeCount ends) n l u d c) (E .allowed)
+            (s ∙ (ap (repainted ends (state l T) es) colors ∙ ap (λ (ks : List ℕ). repainted ends (state l T) ks (exchangedColors l c d ks)) e)),
+      )
 
 -- ---- the fan rotated
 
@@ -102,7 +104,7 @@ module _ (n : ℕ) (ends l T fan : List ℕ) (k u v : ℕ) (G : Turning n ends l
       nodes = G .admitted .nodes;
       c-color = λ z. omega (arith, low (found .c) (found-of .allowed-c));
       d-color = λ z. omega (arith, low (found .d) (found-of .allowed-d));
-      allowed = step-exchange ends m n (InRange n ends) low l k (G .edge) found-of
+      allowed = step-exchange ends m n (InRange n ends) low l k (G .edge) found-of;
     }
 
     pub turn-exchanging : Exchanging ends n l T u c d
@@ -175,7 +177,7 @@ module _ (n : ℕ) (ends starts entries l T M : List ℕ) (k : ℕ) (R : Ready n
         few = rw row (omega (arith, degree-below ends m n (a .simple) (a .inside) u node-inside, a .nodes));
         size = R .size;
         unmarked = R .unmarked;
-        says-free = says-free ends m l T (R .tabled)
+        says-free = says-free ends m l T (R .tabled);
       }
 
   pub step-turning : (v : ℕ) (fan : List ℕ) → v ≡ getD ends (2 * k + 1) 0 → fan ≡ fanOf ends (edgeCount ends) l k → length fan ≤ 512 → Turning n ends l T fan k u v

@@ -15,13 +15,13 @@ ghost use Rattle.misra_gries.specs.Call.{lastOutcome, DateTable};
 use checks::has_double_edge;
 use checks::has_loop;
 use edge_table::EdgeTable;
-use graph::check_graph;
-use graph::copy_colors;
-use graph::incidence_front;
 use graph::Checked;
 use graph::Color;
 use graph::Coloring;
 use graph::Refusal;
+use graph::check_graph;
+use graph::copy_colors;
+use graph::incidence_front;
 use run::run;
 use tally::Tally;
 
@@ -45,7 +45,13 @@ fn days_of_tally(tally: Tally) -> usize
 }
 
 // The run on an admitted list, its colours copied out.
-fn color_simple(n: usize, ends: &[u16], starts: &[u16], entries: &[u16], colors: &mut [u16]) -> Coloring
+fn color_simple(
+    n: usize,
+    ends: &[u16],
+    starts: &[u16],
+    entries: &[u16],
+    colors: &mut [u16],
+) -> Coloring
     requires { ⌜ Admitted n (now ends) ⌝ }
     requires { ⌜ Table (now ends) n (now starts) (now entries) ⌝ }
     requires { ⌜ length (now colors) ≡ edgeCount (now ends) ⌝ }

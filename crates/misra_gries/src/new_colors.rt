@@ -1,6 +1,7 @@
 // The colours that the path's edges and the fan's places take (steps 3 and 5). All are read here before `repaint` stores any.
 use edge_table::color_of;
-use graph::{Color, EdgeIndex};
+use graph::Color;
+use graph::EdgeIndex;
 ghost use mathlib.Core.Path.{_≡_};
 ghost use Prim.Native.Nat.{_≤_};
 ghost use lib.ListN.{length, take, drop};

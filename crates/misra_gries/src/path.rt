@@ -1,8 +1,9 @@
 // The path (step 3).
 use edge_table::EdgeOfColor;
 use edge_table::edge_of_color;
+use graph::Color;
+use graph::NodeIndex;
 use graph::far_end;
-use graph::{Color, NodeIndex};
 ghost use mathlib.Core.Path.{_≡_};
 ghost use Prim.Native.Nat.{_≤_};
 ghost use lib.ListN.{length, take};
@@ -10,7 +11,15 @@ ghost use Rattle.misra_gries.specs.TablePath.{tablePath};
 
 // The path from the node along colours first, second, first and so on, as far as it goes but at most n edges, to the front of
 // out; the answer is the number of its edges.
-pub(crate) fn follow(n: usize, ends: &[u16], table: &[u16], node: NodeIndex, first: Color, second: Color, out: &mut [u16]) -> usize
+pub(crate) fn follow(
+    n: usize,
+    ends: &[u16],
+    table: &[u16],
+    node: NodeIndex,
+    first: Color,
+    second: Color,
+    out: &mut [u16],
+) -> usize
     requires { ⌜ n ≤ length (now out) ⌝ }
     ensures { λ r. ⌜ take r (now (out .exit)) ≡ tablePath (now (ends .entry)) (now (table .entry)) n (node .0) (first .0) (second .0) ⌝ }
     ensures { λ r. ⌜ r ≡ length (tablePath (now (ends .entry)) (now (table .entry)) n (node .0) (first .0) (second .0)) ⌝ }

@@ -1,20 +1,41 @@
 // The run over all edges.
 ghost use Rattle.graph.specs.Edges.{edgeCount};
 ghost use Rattle.misra_gries.specs.Run.{Running};
-use crate::tally::step_kept;
 use crate::tally::Tally;
+use crate::tally::step_kept;
 use graph::EdgeIndex;
 
 // Colours every edge in turn, and tallies them.
-pub(crate) fn run(n: usize, ends: &[u16], starts: &[u16], entries: &[u16], work: &mut [u16], table: &mut [u16], marks: &mut [u16]) -> Tally
+pub(crate) fn run(
+    n: usize,
+    ends: &[u16],
+    starts: &[u16],
+    entries: &[u16],
+    work: &mut [u16],
+    table: &mut [u16],
+    marks: &mut [u16],
+) -> Tally
     requires { ⌜ Running n (now ends) (now starts) (now entries) (now work) (now table) (now marks) (record { edges = 0; greatest = 0 }) 0 ⌝ }
     ensures { λ r. ⌜ Running n (now (ends .entry)) (now (starts .entry)) (now (entries .entry)) (now (work .exit)) (now (table .exit)) (now (marks .exit)) r (edgeCount (now (ends .entry))) ⌝ }
 {
     let m = ends.len() / 2;
-    let mut tally = Tally { edges: 0, greatest: 0 };
+    let mut tally = Tally {
+        edges: 0,
+        greatest: 0,
+    };
     let mut k = 0;
     while k < m {
-        tally = step_kept(tally, n, ends, starts, entries, work, table, marks, EdgeIndex(k as u16));
+        tally = step_kept(
+            tally,
+            n,
+            ends,
+            starts,
+            entries,
+            work,
+            table,
+            marks,
+            EdgeIndex(k as u16),
+        );
         k += 1;
     }
     tally

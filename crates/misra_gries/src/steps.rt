@@ -16,15 +16,23 @@ use crate::path::follow;
 use crate::places::places_to;
 use edge_table::repaint;
 use edge_table::smallest_free;
-use graph::edges_at;
-use graph::end_at;
-use graph::far_end;
 use graph::Color;
 use graph::EdgeIndex;
 use graph::NodeIndex;
+use graph::edges_at;
+use graph::end_at;
+use graph::far_end;
 
 // The path from the node along d, c, d and so on exchanges c and d; the answer is the number of its edges.
-fn exchange_path(n: usize, ends: &[u16], work: &mut [u16], table: &mut [u16], node: NodeIndex, c: Color, d: Color) -> usize
+fn exchange_path(
+    n: usize,
+    ends: &[u16],
+    work: &mut [u16],
+    table: &mut [u16],
+    node: NodeIndex,
+    c: Color,
+    d: Color,
+) -> usize
     requires { ⌜ Exchanging (now ends) n (now work) (now table) (node .0) (c .0) (d .0) ⌝ }
     ensures { λ r. ⌜ r ≡ length (path (now (ends .entry)) (edgeCount (now (ends .entry))) n (now (work .entry)) (node .0) (d .0) (c .0)) ⌝ }
     ensures { λ _. ⌜ (now (work .exit) ≡ exchange (now (work .entry)) (c .0) (d .0) (path (now (ends .entry)) (edgeCount (now (ends .entry))) n (now (work .entry)) (node .0) (d .0) (c .0)))
@@ -53,7 +61,16 @@ fn rotate_fan(ends: &[u16], work: &mut [u16], table: &mut [u16], fan: &[u16], d:
 }
 
 // Steps 2 to 5 for an edge whose fan is given. The answer is the one new colour that may be greater than all before.
-fn turn(n: usize, ends: &[u16], work: &mut [u16], table: &mut [u16], fan: &[u16], edge: EdgeIndex, node: NodeIndex, far: NodeIndex) -> Color
+fn turn(
+    n: usize,
+    ends: &[u16],
+    work: &mut [u16],
+    table: &mut [u16],
+    fan: &[u16],
+    edge: EdgeIndex,
+    node: NodeIndex,
+    far: NodeIndex,
+) -> Color
     requires { ⌜ Turning n (now ends) (now work) (now table) (now fan) (edge .0) (node .0) (far .0) ⌝ }
     ensures { λ r. ⌜ Turned n (now (ends .entry)) (now (work .entry)) (edge .0) (r .0) (now (work .exit)) (now (table .exit)) ⌝ }
 {
@@ -64,11 +81,7 @@ fn turn(n: usize, ends: &[u16], work: &mut [u16], table: &mut [u16], fan: &[u16]
     let len = exchange_path(n, ends, work, table, node, c, d);
     let count = places_to(ends, table, fan, d, node, far);
     rotate_fan(ends, work, table, &fan[..count], d);
-    if len == 0 {
-        d
-    } else {
-        c
-    }
+    if len == 0 { d } else { c }
 }
 
 // Colours one edge.
@@ -90,6 +103,16 @@ pub(crate) fn step(
     let far = end_at(ends, 2 * k + 1);
     let near = edges_at(starts, entries, node);
     let mut fan = [0u16; 512];
-    let len = grow(ends, work, table, marks, edge.0 + 1, near, edge, node, &mut fan);
+    let len = grow(
+        ends,
+        work,
+        table,
+        marks,
+        edge.0 + 1,
+        near,
+        edge,
+        node,
+        &mut fan,
+    );
     turn(n, ends, work, table, &fan[..len], edge, node, far)
 }

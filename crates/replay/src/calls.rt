@@ -1,36 +1,85 @@
 // The calls: each lends so much of its slices as its line says, calls, and prints the answer.
 use crate::input::narrow;
-use crate::lent::{cut, cut_bytes, lend, lend_bytes};
-use crate::lines::{Line, Sizes};
+use crate::lent::cut;
+use crate::lent::cut_bytes;
+use crate::lent::lend;
+use crate::lent::lend_bytes;
+use crate::lines::Line;
+use crate::lines::Sizes;
 use crate::names::Name;
-use crate::output::{put, put_all, put_bytes, put_list, put_part, put_report};
-
-use graph::{Coloring, IncidenceAnswer, NodeIndex, edges_at};
+use crate::output::put;
+use crate::output::put_all;
+use crate::output::put_bytes;
+use crate::output::put_list;
+use crate::output::put_part;
+use crate::output::put_report;
+use graph::Coloring;
+use graph::IncidenceAnswer;
+use graph::NodeIndex;
+use graph::edges_at;
 use greedy::ColoringStrategy;
 use line_graph::LineList;
 
 fn put_coloring(text: &mut [u8], waiting: usize, name: &[u8], answer: Coloring) -> usize {
     match answer {
         Coloring::Accepted { days } => put_report(text, waiting, name, b"days", days as u64),
-        Coloring::Refused(refusal) => put_report(text, waiting, name, b"refused", refusal.number() as u64),
+        Coloring::Refused(refusal) => put_report(
+            text,
+            waiting,
+            name,
+            b"refused",
+            refusal.number() as u64,
+        ),
     }
 }
 
 fn put_line_list(text: &mut [u8], waiting: usize, answer: LineList) -> usize {
     match answer {
-        LineList::Accepted { pairs } => put_report(text, waiting, b"line_graph", b"pairs", pairs as u64),
-        LineList::Refused(refusal) => put_report(text, waiting, b"line_graph", b"refused", refusal.number() as u64),
+        LineList::Accepted { pairs } => put_report(
+            text,
+            waiting,
+            b"line_graph",
+            b"pairs",
+            pairs as u64,
+        ),
+        LineList::Refused(refusal) => put_report(
+            text,
+            waiting,
+            b"line_graph",
+            b"refused",
+            refusal.number() as u64,
+        ),
     }
 }
 
 fn put_incidence(text: &mut [u8], waiting: usize, answer: IncidenceAnswer) -> usize {
     match answer {
-        IncidenceAnswer::Accepted { total } => put_report(text, waiting, b"incidence", b"total", total as u64),
-        IncidenceAnswer::Refused(refusal) => put_report(text, waiting, b"incidence", b"refused", refusal.number() as u64),
+        IncidenceAnswer::Accepted { total } => put_report(
+            text,
+            waiting,
+            b"incidence",
+            b"total",
+            total as u64,
+        ),
+        IncidenceAnswer::Refused(refusal) => put_report(
+            text,
+            waiting,
+            b"incidence",
+            b"refused",
+            refusal.number() as u64,
+        ),
     }
 }
 
-fn call_incidence(text: &mut [u8], waiting: usize, n: usize, ends: &[u16], line: Line, list: &mut [u16], entries: &mut [u16]) -> usize {
+fn call_incidence(
+    text: &mut [u8],
+    waiting: usize,
+    n: usize,
+    ends: &[u16],
+    line: Line,
+    list: &mut [u16],
+    entries: &mut [u16],
+) -> usize {
     let s = cut(line.first, list);
     let e = cut(line.second, entries);
     let starts = &mut list[..s];
@@ -46,7 +95,13 @@ fn call_incidence(text: &mut [u8], waiting: usize, n: usize, ends: &[u16], line:
 }
 
 // The table is the line's own, and nothing is lent.
-fn call_edges_at(text: &mut [u8], waiting: usize, line: Line, list: &[u16], entries: &[u16]) -> usize {
+fn call_edges_at(
+    text: &mut [u8],
+    waiting: usize,
+    line: Line,
+    list: &[u16],
+    entries: &[u16],
+) -> usize {
     let s = cut(line.second, list);
     let e = cut(line.third, entries);
     let edges = edges_at(&list[..s], &entries[..e], NodeIndex(narrow(line.first)));
@@ -55,7 +110,14 @@ fn call_edges_at(text: &mut [u8], waiting: usize, line: Line, list: &[u16], entr
     put(text, end, b'\n')
 }
 
-fn call_two_color(text: &mut [u8], waiting: usize, n: usize, ends: &[u16], line: Line, bytes: &mut [u8]) -> usize {
+fn call_two_color(
+    text: &mut [u8],
+    waiting: usize,
+    n: usize,
+    ends: &[u16],
+    line: Line,
+    bytes: &mut [u8],
+) -> usize {
     let c = cut_bytes(line.first, bytes);
     let colors = &mut bytes[..c];
     lend_bytes(colors);
@@ -65,7 +127,14 @@ fn call_two_color(text: &mut [u8], waiting: usize, n: usize, ends: &[u16], line:
     put(text, end, b'\n')
 }
 
-fn call_line_graph(text: &mut [u8], waiting: usize, n: usize, ends: &[u16], line: Line, list: &mut [u16]) -> usize {
+fn call_line_graph(
+    text: &mut [u8],
+    waiting: usize,
+    n: usize,
+    ends: &[u16],
+    line: Line,
+    list: &mut [u16],
+) -> usize {
     let c = cut(line.first, list);
     let pairs = &mut list[..c];
     lend(pairs);
@@ -75,7 +144,14 @@ fn call_line_graph(text: &mut [u8], waiting: usize, n: usize, ends: &[u16], line
     put(text, end, b'\n')
 }
 
-fn call_node_color(text: &mut [u8], waiting: usize, n: usize, ends: &[u16], line: Line, list: &mut [u16]) -> usize {
+fn call_node_color(
+    text: &mut [u8],
+    waiting: usize,
+    n: usize,
+    ends: &[u16],
+    line: Line,
+    list: &mut [u16],
+) -> usize {
     let c = cut(line.first, list);
     let colors = &mut list[..c];
     lend(colors);
@@ -85,12 +161,25 @@ fn call_node_color(text: &mut [u8], waiting: usize, n: usize, ends: &[u16], line
     put(text, end, b'\n')
 }
 
-fn call_node_color_preset(text: &mut [u8], waiting: usize, n: usize, ends: &[u16], presets: &[u16], line: Line, list: &mut [u16]) -> usize {
+fn call_node_color_preset(
+    text: &mut [u8],
+    waiting: usize,
+    n: usize,
+    ends: &[u16],
+    presets: &[u16],
+    line: Line,
+    list: &mut [u16],
+) -> usize {
     let c = cut(line.first, list);
     let colors = &mut list[..c];
     lend(colors);
     let answer = greedy_color::greedy_node_color_with_preset_colors(n, ends, presets, colors);
-    let end = put_coloring(text, waiting, b"greedy_node_color_with_preset_colors", answer);
+    let end = put_coloring(
+        text,
+        waiting,
+        b"greedy_node_color_with_preset_colors",
+        answer,
+    );
     let end = put_list(text, end, colors);
     put(text, end, b'\n')
 }
@@ -106,18 +195,44 @@ fn strategy_of(number: usize) -> ColoringStrategy {
     ColoringStrategy::IndependentSet
 }
 
-fn call_node_color_by(text: &mut [u8], waiting: usize, n: usize, ends: &[u16], presets: &[u16], line: Line, list: &mut [u16]) -> usize {
+fn call_node_color_by(
+    text: &mut [u8],
+    waiting: usize,
+    n: usize,
+    ends: &[u16],
+    presets: &[u16],
+    line: Line,
+    list: &mut [u16],
+) -> usize {
     let c = cut(line.second, list);
     let colors = &mut list[..c];
     lend(colors);
     let strategy = strategy_of(line.first);
-    let answer = greedy_color::greedy_node_color_with_coloring_strategy(n, ends, presets, strategy, colors);
-    let end = put_coloring(text, waiting, b"greedy_node_color_with_coloring_strategy", answer);
+    let answer = greedy_color::greedy_node_color_with_coloring_strategy(
+        n,
+        ends,
+        presets,
+        strategy,
+        colors,
+    );
+    let end = put_coloring(
+        text,
+        waiting,
+        b"greedy_node_color_with_coloring_strategy",
+        answer,
+    );
     let end = put_list(text, end, colors);
     put(text, end, b'\n')
 }
 
-fn call_misra_gries(text: &mut [u8], waiting: usize, n: usize, ends: &[u16], line: Line, list: &mut [u16]) -> usize {
+fn call_misra_gries(
+    text: &mut [u8],
+    waiting: usize,
+    n: usize,
+    ends: &[u16],
+    line: Line,
+    list: &mut [u16],
+) -> usize {
     let c = cut(line.first, list);
     let colors = &mut list[..c];
     lend(colors);
@@ -151,8 +266,24 @@ pub fn call(
         Name::TwoColor => call_two_color(text, waiting, n, ends, line, bytes),
         Name::LineGraph => call_line_graph(text, waiting, n, ends, line, list),
         Name::GreedyNodeColor => call_node_color(text, waiting, n, ends, line, list),
-        Name::GreedyNodeColorWithPresetColors => call_node_color_preset(text, waiting, n, ends, presets, line, list),
-        Name::GreedyNodeColorWithColoringStrategy => call_node_color_by(text, waiting, n, ends, presets, line, list),
+        Name::GreedyNodeColorWithPresetColors => call_node_color_preset(
+            text,
+            waiting,
+            n,
+            ends,
+            presets,
+            line,
+            list,
+        ),
+        Name::GreedyNodeColorWithColoringStrategy => call_node_color_by(
+            text,
+            waiting,
+            n,
+            ends,
+            presets,
+            line,
+            list,
+        ),
         Name::MisraGriesEdgeColor => call_misra_gries(text, waiting, n, ends, line, list),
         _ => waiting,
     }

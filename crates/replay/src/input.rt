@@ -2,7 +2,8 @@
 ghost use mathlib.Core.Path.{_≡_};
 ghost use Prim.Native.Nat.{_+_, _*_, _≤_, _<_};
 ghost use Rattle.io.specs.Counts.{Counts};
-use crate::cursor::{Cursor, next};
+use crate::cursor::Cursor;
+use crate::cursor::next;
 use crate::lent::cut;
 
 // A number and the place after it.

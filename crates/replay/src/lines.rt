@@ -1,8 +1,11 @@
 // The lines of the input, a name and numbers each.
 ghost use Prim.Native.Nat.{_-_, _≤_};
-use crate::cursor::{Cursor, skip_line};
-use crate::input::{read_list, read_number};
-use crate::names::{Name, read_name};
+use crate::cursor::Cursor;
+use crate::cursor::skip_line;
+use crate::input::read_list;
+use crate::input::read_number;
+use crate::names::Name;
+use crate::names::read_name;
 
 // A line's name, its numbers without those of its lists, and where the next line begins.
 pub struct Line {

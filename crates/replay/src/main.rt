@@ -9,7 +9,8 @@ mod output;
 
 use crate::calls::call;
 use crate::cursor::Cursor;
-use crate::lines::{Sizes, read_line};
+use crate::lines::Sizes;
+use crate::lines::read_line;
 use crate::output::flush;
 
 fn run(
@@ -27,7 +28,17 @@ fn run(
     while input.left > 0 {
         let line = read_line(buffer, input, ends, presets, list, entries);
         sizes = sizes.after(line);
-        waiting = call(text, waiting, line, sizes, ends, presets, list, entries, bytes);
+        waiting = call(
+            text,
+            waiting,
+            line,
+            sizes,
+            ends,
+            presets,
+            list,
+            entries,
+            bytes,
+        );
         input = line.next;
     }
     flush(text, waiting);
@@ -41,5 +52,13 @@ fn main() {
     let mut list = [0u16; 65600];
     let mut entries = [0u16; 8400];
     let mut bytes = [0u8; 1200];
-    run(&mut buffer, &mut text, &mut ends, &mut presets, &mut list, &mut entries, &mut bytes);
+    run(
+        &mut buffer,
+        &mut text,
+        &mut ends,
+        &mut presets,
+        &mut list,
+        &mut entries,
+        &mut bytes,
+    );
 }

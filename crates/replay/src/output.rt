@@ -2,7 +2,9 @@
 ghost use mathlib.Core.Path.{_≡_};
 ghost use Prim.Native.Nat.{_+_, _≤_, _<_};
 ghost use lib.ListN.{length, set};
-use crate::lent::{cut_bytes, unchanged, unchanged_bytes};
+use crate::lent::cut_bytes;
+use crate::lent::unchanged;
+use crate::lent::unchanged_bytes;
 use libc::STDOUT_FILENO;
 
 // Writes what waits.

@@ -16,7 +16,7 @@ color-simple-requires : tie.Need-color-simple-requires
 color-simple-requires c κs = let p = c .before .before .before .before .before .before .before .before .before .before .before .before .before .before .pre .0 in (passed-admitted _ _ p (c .before .before .before .before .before .before .before .before .before .before .before .before .before .before .pre .1 .0) (sym (c .before .before .before .before .has-double-edge .ensures) ∙ c .before .before .before .if1 .left), (c .before .before .before .before .before .before .before .before .before .incidence-front .ensures .1 .1 p (omega (arith, p .nodes)) (omega (arith, p .even, p .edges)), c .before .before .before .before .before .before .before .before .before .before .before .before .before .before .pre .1 .1))
 
 returns-2 : tie.Need-returns-2
-returns-2 c = 
+returns-2 c =
     let r = c .before .before .color-simple .ensures in
     let o = simple-yes _ _ _ _ _ (sym (c .before .before .before .before .before .before .before .has-double-edge .ensures) ∙ c .before .before .before .before .before .before .if1 .left) (r .1) refl in
     (r .0 ∙ o .0, o .1)

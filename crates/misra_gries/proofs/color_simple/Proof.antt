@@ -42,7 +42,7 @@ same-length : tie.Need-same-length
 same-length c = search needs
 
 returns : tie.Need-returns
-returns c = 
+returns c =
     let r = c .before .before .before .before .before .before .before .before .before .run .ensures in
     let d = running-done _ _ _ _ _ _ _ _ _ r (omega arith) in
     (ap accepted (c .days-of-tally .ensures ∙ d .1), c .before .before .before .copy-colors .ensures ∙ (copied-same _ _ (c .before .before .before .before .before .before .before .before .before .before .before .before .before .before .before .before .before .pre .1 .1 ∙ sym (length-take-le _ _ (running-room _ _ _ _ _ _ _ _ _ r))) ∙ d .0))

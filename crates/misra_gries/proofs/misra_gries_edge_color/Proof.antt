@@ -33,7 +33,7 @@ returns-3 : tie.Need-returns-3
 returns-3 c = let o = loop-no _ _ _ _ _ (c .before .before .before .before .before .before .before .check-graph .ensures) (c .before .before .before .before .before .graph .given .1) (c .before .before .if1 .left) _ (c .before .has-loop .ensures) (c .if2 .taken) in (o .0, (o .1, date-table _ _ _ _ _ (o .0) (o .1)))
 
 color-checked-requires : tie.Need-color-checked-requires
-color-checked-requires c κs = 
+color-checked-requires c κs =
     let e = c .before .before .before .before .before .before .before .before .check-graph .ensures in
     let p = c .before .before .before .before .before .before .graph .given .1 in
     let lent = c .before .before .before .before .before .before .before .before .before .before .before .args .colors .now in
@@ -43,7 +43,7 @@ same-length : tie.Need-same-length
 same-length c = search needs
 
 returns-4 : tie.Need-returns-4
-returns-4 c = 
+returns-4 c =
     let r = c .before .before .color-checked .ensures in
     let o = last-yes _ _ _ _ _ (c .before .before .before .before .before .before .before .before .before .before .before .check-graph .ensures) (c .before .before .before .before .before .before .before .before .before .graph .given .1) (c .before .before .before .before .before .before .if1 .left) _ _ _ (c .before .before .before .before .before .has-loop .ensures) (c .before .before .before .before .if2 .left) (r .0) (r .1) in
     (o .0, (o .1, date-table _ _ _ _ _ (o .0) (o .1)))
