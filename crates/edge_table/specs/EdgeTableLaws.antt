@@ -47,9 +47,6 @@ pub edge-some : (x : ℕ) → x ≢ noEdge → edgeOfEntry x ≡ some x
 unfolding edgeOfEntry
 edge-some x n = simp (ne-eqb _ _ n)
 
-pub entry-edge : (x : ℕ) → entryOf (edgeOfEntry x) ≡ x
-entry-edge x = elim (dec-eq x noEdge) [ inl e ↦ ap entryOf (edge-none x e) ∙ sym e | inr n ↦ ap entryOf (edge-some x n) ]
-
 -- ---- what is read
 
 pub entry-place : (T : List ℕ) (v c : ℕ) → c < 576 → entryAt T v c ≡ getD T (v * 576 + c) noEdge

@@ -62,10 +62,6 @@ pub different-new : (x : ℕ) (xs : List ℕ) → (Mem x xs → ⊥) → differe
 unfolding different distinct
 different-new x xs n = by-test (elem x xs) (λ t. absurd (n (elem-true x xs t))) (λ t. rw t)
 
-pub different-old : (x : ℕ) (xs : List ℕ) → Mem x xs → different (x ∷ xs) ≡ different xs
-unfolding different distinct
-different-old x xs p = by-test (elem x xs) (λ t. rw t) (λ t. absurd (elem-false x xs t p))
-
 -- ---- how often a number stands in a list
 
 unfoldable pub count : ℕ → List ℕ → ℕ

@@ -40,9 +40,6 @@ part-join l a b c h k =
     let p : a + (b - a) ≡ b = omega arith in
     rw (n, take-add (b - a) (c - b) (drop a l), drop-drop (b - a) a l, p)
 
-pub length-part : (l : List ℕ) (a e : ℕ) → a ≤ e → e ≤ length l → length (part l a e) ≡ e - a
-length-part l a e h k = length-take-le (e - a) (drop a l) (rw (length-drop a l) (omega arith))
-
 -- ---- a copy from the front
 
 -- The front of d with as many numbers of s as both have.

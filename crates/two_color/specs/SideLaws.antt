@@ -225,9 +225,6 @@ lowest-root ends (suc k) v =
     (λ e. rw (lowest-gives ends k v e) (root-more ends k lo old (gives-lower (lowFirst ends k) (lowSecond ends k))))
     (λ e. rw (lowest-stays ends k v e) (root-more ends k (lowest ends k v) (lowest-root ends k v) e))
 
-pub lowest-lowest : (ends : List ℕ) (k v : ℕ) → lowest ends k (lowest ends k v) ≡ lowest ends k v
-lowest-lowest ends k v = lowest-root ends k v .0
-
 pub odd-side-lowest : (ends : List ℕ) (k v : ℕ) → oddSide ends k (lowest ends k v) ≡ false
 odd-side-lowest ends k v = lowest-root ends k v .1
 
@@ -246,9 +243,6 @@ lowest-far ends m j v h (inr p) = rw (far-second ends j v p, ← p) (lowest-ends
 pub lowest-same : {ends : List ℕ} {m u v l : ℕ} → Walk ends m u v l → lowest ends m u ≡ lowest ends m v
 lowest-same stay = refl
 lowest-same {ends} {m} {u} (along k h p r) = sym (lowest-far ends m k u h p) ∙ lowest-same r
-
-pub lowest-least : {ends : List ℕ} {m u v l : ℕ} → Walk ends m u v l → lowest ends m v ≤ u
-lowest-least {ends} {m} {u} w = rw (lowest-same w) at (lowest-le ends m u)
 
 -- A walk leads from it to each node of the component, odd where the node is on the odd side.
 pub lowest-walk : (ends : List ℕ) (k v : ℕ) → WalkOf ends k (lowest ends k v) v (oddSide ends k v)

@@ -72,10 +72,6 @@ is-free-false l ks c e = elim (some-or-none (edgeOfColor l c ks)) [
 pub none-has-free : (l ks : List ℕ) (c : ℕ) → NoneHas l ks c → isFree l ks c ≡ true
 none-has-free l ks c n = by-test (isFree l ks c) (λ t. t) (λ t. let r = is-free-false l ks c t in absurd (n (r .0) (r .1) (r .2)))
 
--- The smallest free colour at a node is free there.
-pub smallest-is-free : (l ks : List ℕ) → length ks < noColor → isFree l ks (smallestFreeAt l ks) ≡ true
-smallest-is-free l ks few = none-has-free l ks (smallestFreeAt l ks) (smallest-none-has l ks few)
-
 -- ---- joining the fan
 
 -- What lets candidate k join: it is not in the fan, it is coloured, and none of ks has its colour.
