@@ -12,7 +12,7 @@ use Rattle.greedy.specs.Degree.{degreeOrder, degreeColors}
 use Rattle.greedy.specs.TurnLaws.{in-order-greedy}
 use Rattle.greedy.specs.declared.ColoringStrategy.{ColoringStrategy}
 use Rattle.greedy.specs.Call.{Rule, ruleOf, greedyNodes, greedyNodesPlain, greedyEdges, greedyEdgesPlain, HolidayLookup, PageGrid, EdgesApart}
-use Rattle.greedy.specs.CallerLaws.{GreedyRule, holiday-lookup, page-grid, edges-apart, nodes-plain-same, edges-plain-same, grid-without-presets, apart-without-presets}
+use Rattle.greedy.specs.CallerLaws.{GreedyRule, holiday-lookup, page-grid, edge-holidays, edges-apart, nodes-plain-same, edges-plain-same, grid-without-presets, apart-without-presets}
 use Rattle.greedy.specs.IndependentSet.{independentSetColors}
 use Rattle.independent_set.specs.IndependentSetLaws.{independent-set-greedy}
 use Rattle.degree.specs.OrderLaws.{order-member, member-order, order-nodup}
@@ -58,3 +58,9 @@ pub by-strategy : (strategy known : ColoringStrategy) → strategy ≡ known →
     → r ≡ greedyNodes (ruleOf known) n ends presets lent .report → colors ≡ greedyNodes (ruleOf known) n ends presets lent .colors
     → (r ≡ greedyNodes (ruleOf strategy) n ends presets lent .report) × ((colors ≡ greedyNodes (ruleOf strategy) n ends presets lent .colors) × (HolidayLookup n presets r colors × PageGrid n ends presets r colors))
 by-strategy strategy known e greedy n ends presets lent r colors a b = rw e (with-presets (ruleOf known) greedy n ends presets lent r colors a b)
+
+pub edges-by-strategy : (strategy known : ColoringStrategy) → strategy ≡ known → GreedyRule (ruleOf known) → (n : ℕ) (ends presets lent : List ℕ) (r : Report ℕ) (colors : List ℕ)
+    → r ≡ greedyEdges (ruleOf known) n ends presets lent .report → colors ≡ greedyEdges (ruleOf known) n ends presets lent .colors
+    → (r ≡ greedyEdges (ruleOf strategy) n ends presets lent .report) × ((colors ≡ greedyEdges (ruleOf strategy) n ends presets lent .colors) × (HolidayLookup (edgeCount ends) presets r colors × EdgesApart ends presets r colors))
+edges-by-strategy strategy known e greedy n ends presets lent r colors a b =
+    rw e (a, (b, (edge-holidays (ruleOf known) greedy n ends presets lent r colors a b, edges-apart (ruleOf known) greedy n ends presets lent r colors a b)))

@@ -2,8 +2,9 @@
 ghost use mathlib.Core.Path.{_≡_};
 ghost use mathlib.Core.List.{[]};
 ghost use Rattle.graph.specs.Report.{reportOfColoring};
+ghost use Rattle.graph.specs.Edges.{edgeCount};
 ghost use Rattle.greedy.specs.Degree.{degreeColors};
-ghost use Rattle.greedy.specs.Call.{ruleOf, greedyNodes, greedyNodesPlain, greedyEdgesPlain, HolidayLookup, PageGrid, EdgesApart};
+ghost use Rattle.greedy.specs.Call.{ruleOf, greedyNodes, greedyNodesPlain, greedyEdges, greedyEdgesPlain, HolidayLookup, PageGrid, EdgesApart};
 use graph::Color;
 use graph::Coloring;
 use graph::Graph;
@@ -72,5 +73,25 @@ pub fn greedy_edge_color(n: usize, ends: &[u16], colors: &mut [u16]) -> Coloring
         degree::color_edges(n, ends, &presets[..lent], colors)
     } else {
         degree::color_edges(n, ends, &presets, colors)
+    }
+}
+
+// The edges by any strategy with presets.
+pub fn greedy_edge_color_with_coloring_strategy(
+    n: usize,
+    ends: &[u16],
+    presets: &[u16],
+    strategy: ColoringStrategy,
+    colors: &mut [u16],
+) -> Coloring
+    ensures { λ r. ⌜ reportOfColoring r ≡ greedyEdges (ruleOf strategy) n (now (ends .entry)) (now (presets .entry)) (now (colors .entry)) .report ⌝ }
+    ensures { λ _. ⌜ now (colors .exit) ≡ greedyEdges (ruleOf strategy) n (now (ends .entry)) (now (presets .entry)) (now (colors .entry)) .colors ⌝ }
+    ensures holidays { λ r. ⌜ HolidayLookup (edgeCount (now (ends .entry))) (now (presets .entry)) (reportOfColoring r) (now (colors .exit)) ⌝ }
+    ensures apart { λ r. ⌜ EdgesApart (now (ends .entry)) (now (presets .entry)) (reportOfColoring r) (now (colors .exit)) ⌝ }
+{
+    match strategy {
+        ColoringStrategy::Degree => degree::color_edges(n, ends, presets, colors),
+        ColoringStrategy::Saturation => saturation::color_edges(n, ends, presets, colors),
+        ColoringStrategy::IndependentSet => independent_set::color_edges(n, ends, presets, colors),
     }
 }

@@ -1,4 +1,4 @@
--- The list of uncoloured nodes as the code holds it, and what taking out and putting off do to it.
+-- The list of uncoloured items as the code holds it, and what taking out and putting off do to it.
 use Prim.Native.Nat.{ℕ, suc, _+_, _-_, _≤_, _<_}
 use mathlib.Core.Path.{_≡_, refl, sym, ap, subst, _∙_}
 use mathlib.Core.Logic.{inl, inr, _≢_}
@@ -17,17 +17,17 @@ use Rattle.graph.specs.ColoredLaws.{color-read, colored-true, uncolored-false}
 use Rattle.greedy.specs.Turn.{uncolored}
 use Rattle.greedy.specs.IndependentSet.{placeOf, takeOut, Lists, putOff}
 
--- The first `len` numbers of an array are these items, nodes below n, and each item's place is known. So no item stands twice.
+-- The first `len` numbers of an array are these items, of n, and each item's place is known. So no item stands twice.
 pub record Listing (n : ℕ) (listed place : List ℕ) (len : ℕ) (items : List ℕ) : Type 0 where
-  pub nodes : n ≤ 512
-  pub size : length listed ≡ 512
-  pub places : length place ≡ 512
+  pub few : n ≤ 4096
+  pub size : length listed ≡ 4096
+  pub places : length place ≡ 4096
   pub room : len ≤ n
   pub inside : (j : ℕ) → j < len → getD listed j 0 < n
   pub placed : (j : ℕ) → j < len → getD place (getD listed j 0) 0 ≡ j
   pub held : take len listed ≡ items
 
--- The listed nodes and those put off: two arrays that share the places.
+-- The listed items and those put off: two arrays that share the places.
 pub record Held (n : ℕ) (listed place next : List ℕ) (len end : ℕ) (s : Lists) : Type 0 where
   pub first : Listing n listed place len (s .listed)
   pub second : Listing n next place end (s .next)
@@ -41,7 +41,7 @@ listsAt listed next len end = record { listed = take len listed; next = take end
 -- ---- one list
 
 pub length-items : (n : ℕ) (listed place : List ℕ) (len : ℕ) (items : List ℕ) → Listing n listed place len items → length items ≡ len
-length-items n listed place len items l = ap length (sym (l .held)) ∙ length-take-le len listed (omega (arith, l .size, l .nodes, l .room))
+length-items n listed place len items l = ap length (sym (l .held)) ∙ length-take-le len listed (omega (arith, l .size, l .few, l .room))
 
 pub item-at : (n : ℕ) (listed place : List ℕ) (len : ℕ) (items : List ℕ) → Listing n listed place len items → (j : ℕ) → j < len → getD items j 0 ≡ getD listed j 0
 item-at n listed place len items l j h = ap (λ (x : List ℕ). getD x j 0) (sym (l .held)) ∙ getD-take len listed j 0 h
@@ -74,7 +74,7 @@ place-same n listed place len items l v p =
     let e : getD listed (placeOf v items) 0 ≡ v = sym (item-at n listed place len items l (placeOf v items) h) ∙ r .1 in
     sym (ap (λ (x : ℕ). getD place x 0) (sym e) ∙ l .placed (placeOf v items) h)
 
--- ---- whether a node is listed
+-- ---- whether an item is listed
 
 pub not-listed : (n : ℕ) (listed place : List ℕ) (len : ℕ) (items : List ℕ) (v : ℕ) → Listing n listed place len items → len ≤ getD place v 0 → false ≡ elem v items
 not-listed n listed place len items v l h = sym (not-mem-elem v items (λ p. omega (arith, item-place n listed place len items l v p .0)))
@@ -87,10 +87,10 @@ listed-there n listed place len items v l h = elim (dec-eq (getD listed (getD pl
 
 -- ---- one item more
 
-pub list-push : (n m : ℕ) (listed place : List ℕ) (len : ℕ) (items : List ℕ) (v : ℕ) → Listing n listed place len items → n ≤ m → m ≤ 512 → v < m → len < m → ((j : ℕ) → j < len → getD listed j 0 ≢ v)
+pub list-push : (n m : ℕ) (listed place : List ℕ) (len : ℕ) (items : List ℕ) (v : ℕ) → Listing n listed place len items → n ≤ m → m ≤ 4096 → v < m → len < m → ((j : ℕ) → j < len → getD listed j 0 ≢ v)
     → Listing m (set listed len v) (set place v len) (len + 1) (items ++ v ∷ [])
 list-push n m listed place len items v l nm bound less space new = record {
-  nodes = bound;
+  few = bound;
   size = length-set listed len v ∙ l .size;
   places = length-set place v len ∙ l .places;
   room = omega arith;
@@ -108,13 +108,13 @@ list-push n m listed place len items v l nm bound less space new = record {
     here : getD (set listed len v) len 0 ≡ v
     here = getD-set-same listed len v 0 (omega (arith, l .size))
 
--- ---- the nodes without a colour
+-- ---- the items without a colour
 
-pub list-none : (listed place presets : List ℕ) → length listed ≡ 512 → length place ≡ 512 → Listing 0 listed place 0 (uncolored presets 0)
+pub list-none : (listed place presets : List ℕ) → length listed ≡ 4096 → length place ≡ 4096 → Listing 0 listed place 0 (uncolored presets 0)
 unfolding uncolored
-list-none listed place presets a b = record { nodes = omega arith; size = a; places = b; room = omega arith; inside = λ j h. absurd (not-suc-le-zero h); placed = λ j h. absurd (not-suc-le-zero h); held = refl }
+list-none listed place presets a b = record { few = omega arith; size = a; places = b; room = omega arith; inside = λ j h. absurd (not-suc-le-zero h); placed = λ j h. absurd (not-suc-le-zero h); held = refl }
 
-module _ (n v : ℕ) (presets listed place : List ℕ) (len : ℕ) (l : Listing v listed place len (uncolored presets v)) (nodes : n ≤ 512) (size : length presets ≡ n) (less : v < n) where
+module _ (n v : ℕ) (presets listed place : List ℕ) (len : ℕ) (l : Listing v listed place len (uncolored presets v)) (few : n ≤ 4096) (size : length presets ≡ n) (less : v < n) where
   pub list-more : getD presets v 0 ≡ 65535 → Listing (v + 1) (set listed len v) (set place v len) (len + 1) (uncolored presets (v + 1))
   unfolding uncolored
   list-more e =
@@ -125,7 +125,7 @@ module _ (n v : ℕ) (presets listed place : List ℕ) (len : ℕ) (l : Listing 
   unfolding uncolored
   list-skip e =
       let t = colored-true presets v (λ q. e (color-read presets v 0 (omega arith) ∙ q)) in
-      rw (add-one v, uncolored, t) (rw (append-nil (uncolored presets v)) (record { nodes = omega arith; size = l .size; places = l .places; room = omega (arith, l .room); inside = λ j h. omega (arith, l .inside j h); placed = l .placed; held = l .held }))
+      rw (add-one v, uncolored, t) (rw (append-nil (uncolored presets v)) (record { few = omega arith; size = l .size; places = l .places; room = omega (arith, l .room); inside = λ j h. omega (arith, l .inside j h); placed = l .placed; held = l .held }))
 
 -- ---- taking out
 
@@ -154,7 +154,7 @@ module _ (n : ℕ) (listed place next : List ℕ) (len end : ℕ) (s : Lists) (h
   not-hole j b q e = q (sym (h .first .placed j b) ∙ ap (λ (x : ℕ). getD place x 0) e)
 
   moved : getD (set listed hole last) hole 0 ≡ last
-  moved = getD-set-same listed hole last 0 (omega (arith, at .0, h .first .size, h .first .nodes, h .first .room))
+  moved = getD-set-same listed hole last 0 (omega (arith, at .0, h .first .size, h .first .few, h .first .room))
 
   -- What a fact about the numbers of the list says of those that are left.
   left-at : (P : ℕ → Type 0) (j : ℕ) → j < len - 1 → (j ≡ hole → P last) → (j ≢ hole → P (getD listed j 0)) → P (getD (set listed hole last) j 0)
@@ -163,7 +163,7 @@ module _ (n : ℕ) (listed place next : List ℕ) (len end : ℕ) (s : Lists) (h
     | inr e ↦ subst P (sym (getD-set-other listed hole j last 0 e)) (g e)
   ]
 
-  -- The node taken out is not among those that are left.
+  -- The item taken out is not among those that are left.
   pub taken-gone : (j : ℕ) → j < len - 1 → getD (set listed hole last) j 0 ≢ v
   taken-gone j b = left-at (λ (x : ℕ). x ≢ v) j b
       (λ e q. omega (arith, last-placed, ap (λ (x : ℕ). getD place x 0) q))
@@ -180,18 +180,18 @@ module _ (n : ℕ) (listed place next : List ℕ) (len end : ℕ) (s : Lists) (h
   pub taken-out : (listed′ place′ : List ℕ) → listed′ ≡ set listed hole last → place′ ≡ set place last hole → Held n listed′ place′ next (len - 1) end (record { listed = takeOut v (s .listed); next = s .next })
   taken-out listed′ place′ p q = rw (p, q) (record {
     first = record {
-      nodes = h .first .nodes;
+      few = h .first .few;
       size = length-set listed hole last ∙ h .first .size;
       places = length-set place last hole ∙ h .first .places;
       room = omega (arith, h .first .room);
       inside = λ j b. left-at (λ (x : ℕ). x < n) j b (λ e. last-inside) (λ e. h .first .inside j (omega arith));
       placed = λ j b. left-at (λ (x : ℕ). getD (set place last hole) x 0 ≡ j) j b
-          (λ e. getD-set-same place last hole 0 (omega (arith, last-inside, h .first .places, h .first .nodes)) ∙ sym e)
+          (λ e. getD-set-same place last hole 0 (omega (arith, last-inside, h .first .places, h .first .few)) ∙ sym e)
           (λ e. getD-set-other place last (getD listed j 0) hole 0 (not-last j b) ∙ h .first .placed j (omega arith));
       held = taken-items;
     };
     second = record {
-      nodes = h .first .nodes;
+      few = h .first .few;
       size = h .second .size;
       places = length-set place last hole ∙ h .first .places;
       room = h .second .room;
@@ -203,7 +203,7 @@ module _ (n : ℕ) (listed place next : List ℕ) (len end : ℕ) (s : Lists) (h
     total = omega (arith, h .total);
   })
 
-  -- The node taken out goes to the end of the next list.
+  -- The item taken out goes to the end of the next list.
   pub put-off-taken : (listed′ place′ : List ℕ) → listed′ ≡ set listed hole last → place′ ≡ set place last hole
       → Held n listed′ (set place′ v end) (set next end v) (len - 1) (end + 1) (record { listed = takeOut v (s .listed); next = s .next ++ v ∷ [] })
   put-off-taken listed′ place′ p q =
@@ -213,7 +213,7 @@ module _ (n : ℕ) (listed place next : List ℕ) (len end : ℕ) (s : Lists) (h
       let new : (j : ℕ) → j < end → getD next j 0 ≢ v = λ j b e. h .apart (getD place v 0) j (at .0) b (at .1 ∙ sym e) in
       record {
         first = record {
-          nodes = t .first .nodes;
+          few = t .first .few;
           size = t .first .size;
           places = length-set place′ v end ∙ t .first .places;
           room = t .first .room;
@@ -221,9 +221,9 @@ module _ (n : ℕ) (listed place next : List ℕ) (len end : ℕ) (s : Lists) (h
           placed = λ j b. getD-set-other place′ v (getD listed′ j 0) end 0 (gone j b) ∙ t .first .placed j b;
           held = t .first .held;
         };
-        second = list-push n n next place′ end (s .next) v (t .second) (omega arith) (t .first .nodes) inside (omega (arith, h .total, at .0)) new;
+        second = list-push n n next place′ end (s .next) v (t .second) (omega arith) (t .first .few) inside (omega (arith, h .total, at .0)) new;
         apart = λ i j a b. elim (dec-eq j end) [
-          | inl e ↦ λ q. gone i a (q ∙ (ap (λ (k : ℕ). getD (set next end v) k 0) e ∙ getD-set-same next end v 0 (omega (arith, t .second .size, h .total, at .0, h .first .nodes))))
+          | inl e ↦ λ q. gone i a (q ∙ (ap (λ (k : ℕ). getD (set next end v) k 0) e ∙ getD-set-same next end v 0 (omega (arith, t .second .size, h .total, at .0, h .first .few))))
           | inr e ↦ λ q. t .apart i j a (omega arith) (q ∙ getD-set-other next end j v 0 e)
         ];
         total = omega (arith, h .total, at .0);
@@ -245,5 +245,5 @@ module _ (n : ℕ) (listed place next : List ℕ) (len end : ℕ) (s : Lists) (h
   pub put-off-place : r ≡ true → getD place v 0 < len
   put-off-place t = item-place n listed place len (s .listed) (h .first) v (elem-true v (s .listed) (sym e ∙ t)) .0
 
-  pub put-off-room : r ≡ true → (0 < len) × (end < 512) × (length next ≡ 512)
-  put-off-room t = let p = put-off-place t in (omega arith, omega (arith, h .total, h .first .nodes), h .second .size)
+  pub put-off-room : r ≡ true → (0 < len) × (end < 4096) × (length next ≡ 4096)
+  put-off-room t = let p = put-off-place t in (omega arith, omega (arith, h .total, h .first .few), h .second .size)

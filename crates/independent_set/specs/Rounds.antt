@@ -6,13 +6,13 @@ use mathlib.Core.Bool.{true, false}
 use native.Mathlib.Omega.{arith}
 use native.Mathlib.Nat.{not-suc-le-zero, min-le-left}
 use native.Mathlib.Numerals.{add-one}
-use lib.ListN.{length, getD, set, take, length-take, length-set}
-use lib.Seq.{take-all}
+use lib.ListN.{length, getD, set, take, drop, length-take, length-set}
+use lib.Seq.{take-all, take-append-seam, getD-take, length-take-le}
 use lib.Dec.{eqb}
 use borrow.Author.Tests.{eq-eqb, ne-eqb}
 use Rattle.lists.specs.Tests.{by-test}
 use Rattle.lists.specs.Member.{Mem, elem, not-mem-elem, mem-map, mem-getD}
-use Rattle.lists.specs.Parts.{copiedOver, copied-same}
+use Rattle.lists.specs.Parts.{copiedOver}
 use Rattle.graph.specs.CheckLaws.{Passed}
 use Rattle.graph.specs.Edges.{edgeCount, farEnd, edgesAt, neighbors}
 use Rattle.graph.specs.NeighborLaws.{neighbors-far-ends, passed-neighbor}
@@ -34,6 +34,27 @@ held-at n listed place next len end s h = rw (lists-held n listed place next len
 
 pub listing-at : (n : ℕ) (listed place : List ℕ) (len : ℕ) (items : List ℕ) → Listing n listed place len items → Listing n listed place len (take len listed)
 listing-at n listed place len items l = rw (l .held) l
+
+-- A copy of the front is listed as well.
+listing-copied : (n : ℕ) (listed place : List ℕ) (len : ℕ) (items : List ℕ) → Listing n listed place len items → (copy : List ℕ) → length copy ≡ 4096 → take len copy ≡ take len listed → Listing n copy place len (take len copy)
+listing-copied n listed place len items l copy size e = record {
+  few = l .few;
+  size = size;
+  places = l .places;
+  room = l .room;
+  inside = λ j h. rw (at j h) (l .inside j h);
+  placed = λ j h. rw (at j h) (l .placed j h);
+  held = refl;
+}
+  where
+    at : (j : ℕ) → j < len → getD copy j 0 ≡ getD listed j 0
+    at j h = sym (getD-take len copy j 0 h) ∙ (ap (λ (x : List ℕ). getD x j 0) e ∙ getD-take len listed j 0 h)
+
+copied-front : (len : ℕ) (from to : List ℕ) → len ≤ length from → len ≤ length to → take len (copiedOver (take len from) to) ≡ take len from
+unfolding copiedOver
+copied-front len from to a b =
+    let l = length-take-le len from a in
+    rw (take-all (length to) (take len from) (omega arith), l) (ap (λ (i : ℕ). take i (take len from ++ drop len to)) (sym l) ∙ take-append-seam (take len from) (drop len to))
 
 -- ---- putting off one item
 
@@ -101,7 +122,7 @@ pub presets-done : (n : ℕ) (nb : ℕ → List ℕ) (presets : List ℕ) (v r :
     → Held n listed place next len end (putOffPresets nb presets r n s)
 presets-done n nb presets v r s listed place next len end a b h = let e : v ≡ n = omega arith in subst (λ (w : ℕ). Held n listed place next len end (putOffPresets nb presets r w s)) e h
 
--- ---- the listed nodes
+-- ---- the listed items
 
 -- What a round leaves, in the arrays.
 pub record Rounded (n : ℕ) (next place : List ℕ) (end : ℕ) (colors : List ℕ) (after : Round) : Type 0 where
@@ -214,12 +235,12 @@ module _ (n : ℕ) (nb : ℕ → List ℕ) (r : ℕ) (listed place next : List �
 -- Between rounds: the rounds that are left lead to the answer.
 pub record Rounding (n : ℕ) (nb : ℕ → List ℕ) (presets listed place next : List ℕ) (len r : ℕ) (colors answer : List ℕ) : Type 0 where
   pub list : Listing n listed place len (take len listed)
-  pub spare : length next ≡ 512
+  pub spare : length next ≡ 4096
   pub size : length colors ≡ n
   pub bound : r ≤ n
   pub same : rounds nb n presets (n - r) r (take len listed) colors ≡ answer
 
-pub rounds-start : (n : ℕ) (nb : ℕ → List ℕ) (presets listed place next : List ℕ) (len : ℕ) (colors : List ℕ) → Listing n listed place len (take len listed) → length next ≡ 512 → length colors ≡ n
+pub rounds-start : (n : ℕ) (nb : ℕ → List ℕ) (presets listed place next : List ℕ) (len : ℕ) (colors : List ℕ) → Listing n listed place len (take len listed) → length next ≡ 4096 → length colors ≡ n
     → Rounding n nb presets listed place next len 0 colors (rounds nb n presets n 0 (take len listed) colors)
 rounds-start n nb presets listed place next len colors l a b = record { list = l; spare = a; size = b; bound = omega arith; same = let e : n - 0 ≡ n = omega arith in rw e }
 
@@ -259,7 +280,7 @@ module _ (n : ℕ) (nb : ℕ → List ℕ) (presets listed place next : List ℕ
   round-held = record {
     first = rounding .list;
     second = record {
-      nodes = rounding .list .nodes;
+      few = rounding .list .few;
       size = rounding .spare;
       places = rounding .list .places;
       room = omega arith;
@@ -273,20 +294,21 @@ module _ (n : ℕ) (nb : ℕ → List ℕ) (presets listed place next : List ℕ
 
   pub round-more : r < n → (listed₁ place₁ next₁ : List ℕ) (len₁ end₁ : ℕ) → Held n listed₁ place₁ next₁ len₁ end₁ (putOffPresets nb presets r n (listsAt listed next len 0))
       → (next₂ place₂ colors₂ : List ℕ) (len₂ : ℕ) → Rounded n next₂ place₂ len₂ colors₂ (colorListed nb r len₁ (listsAt listed₁ next₁ len₁ end₁) colors)
-      → (before listed₂ : List ℕ) → length before ≡ length listed₁ → listed₂ ≡ copiedOver next₂ before
+      → (before listed₂ : List ℕ) → length before ≡ length listed₁ → length listed₂ ≡ length before → listed₂ ≡ copiedOver (take len₂ next₂) before
       → Rounding n nb presets listed₂ place₂ next₂ len₂ (r + 1) colors₂ answer
   unfolding rounds round
-  round-more h listed₁ place₁ next₁ len₁ end₁ k next₂ place₂ colors₂ len₂ d before listed₂ sz cp =
-      let same₂ : listed₂ ≡ next₂ = cp ∙ copied-same next₂ before (sz ∙ (k .first .size ∙ sym (d .list .size))) in
+  round-more h listed₁ place₁ next₁ len₁ end₁ k next₂ place₂ colors₂ len₂ d before listed₂ sz sz₂ cp =
+      let size₂ : length before ≡ 4096 = sz ∙ k .first .size in
+      let same₂ : take len₂ listed₂ ≡ take len₂ next₂ = ap (take len₂) cp ∙ copied-front len₂ next₂ before (omega (arith, d .list .size, d .list .room, d .list .few)) (omega (arith, d .list .room, d .list .few)) in
       let s = putOffPresets nb presets r n (listsAt listed next len 0) in
       let i : len₁ ≡ length (s .listed) = sym (length-items n listed₁ place₁ len₁ (s .listed) (k .first)) in
       let a : colorListed nb r len₁ (listsAt listed₁ next₁ len₁ end₁) colors ≡ round nb n presets r (take len listed) colors = ap₂ (λ (t : ℕ) (x : Lists). colorListed nb r t x colors) i (lists-held n listed₁ place₁ next₁ len₁ end₁ s k) in
       let f : n - r ≡ suc (n - (r + 1)) = omega arith in
       let step : rounds nb n presets (n - r) r (take len listed) colors ≡ rounds nb n presets (n - (r + 1)) (suc r) (round nb n presets r (take len listed) colors .next) (round nb n presets r (take len listed) colors .colors) = rw f in
-      let u : take len₂ listed₂ ≡ round nb n presets r (take len listed) colors .next = ap (take len₂) same₂ ∙ (d .list .held ∙ ap (λ (x : Round). x .next) a) in
+      let u : take len₂ listed₂ ≡ round nb n presets r (take len listed) colors .next = same₂ ∙ (d .list .held ∙ ap (λ (x : Round). x .next) a) in
       let w : colors₂ ≡ round nb n presets r (take len listed) colors .colors = d .same ∙ ap (λ (x : Round). x .colors) a in
       record {
-        list = rw same₂ (record { nodes = d .list .nodes; size = d .list .size; places = d .list .places; room = d .list .room; inside = d .list .inside; placed = d .list .placed; held = refl });
+        list = listing-copied n next₂ place₂ len₂ (colorListed nb r len₁ (listsAt listed₁ next₁ len₁ end₁) colors .next) (d .list) listed₂ (sz₂ ∙ size₂) same₂;
         spare = d .list .size;
         size = d .size;
         bound = omega arith;

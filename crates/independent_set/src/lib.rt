@@ -1,39 +1,41 @@
-// Greedy node colouring by independent sets.
+// Greedy colouring by independent sets, of nodes and of edges.
 ghost use mathlib.Core.Path.{_≡_};
-ghost use Prim.Native.Nat.{ℕ};
 ghost use lib.ListN.{length};
 ghost use Rattle.graph.specs.CheckLaws.{Passed};
-ghost use Rattle.graph.specs.Edges.{edgeCount, neighbors};
-ghost use Rattle.graph.specs.StretchLaws.{Table};
 ghost use Rattle.graph.specs.Report.{reportOfColoring};
-ghost use Rattle.greedy.specs.Call.{greedyNodes};
+ghost use Rattle.greedy.specs.Call.{greedyNodes, greedyEdges};
 ghost use Rattle.greedy.specs.IndependentSet.{independentSetColors};
+ghost use Rattle.independent_set.specs.Items.{neighborsOf, countOf};
+use crate::items::Items;
 use graph::Checked;
 use graph::Coloring;
 use graph::copy_colors;
 use graph::days_of;
 use graph::incidence_front;
+use greedy::check_edges;
 use greedy::check_nodes;
 
+mod edges;
+mod items;
 mod listing;
 mod rounds;
 
-// A graph that passed the checks, and a preset and a colour for each node.
-fn color_checked(n: usize, ends: &[u16], presets: &[u16], colors: &mut [u16])
-    requires { ⌜ Passed n (now ends) ⌝ }
-    requires { ⌜ (length (now presets) ≡ n) × (length (now colors) ≡ n) ⌝ }
-    ensures { λ _. ⌜ now (colors .exit) ≡ independentSetColors (neighbors (now (ends .entry)) (edgeCount (now (ends .entry)))) n (now (presets .entry)) ⌝ }
+// The items of a graph that passed the checks, with a preset and a colour for each.
+fn color_checked(items: Items, ends: &[u16], presets: &[u16], colors: &mut [u16])
+    requires { ⌜ Passed (items .nodes) (now ends) ⌝ }
+    requires { ⌜ (items .count ≡ countOf items (now ends)) × (length (now presets) ≡ items .count) × (length (now colors) ≡ items .count) ⌝ }
+    ensures { λ _. ⌜ now (colors .exit) ≡ independentSetColors (neighborsOf items (now (ends .entry))) (items .count) (now (presets .entry)) ⌝ }
 {
     let mut starts = [0u16; 513];
     let mut entries = [0u16; 8192];
-    let mut listed = [0u16; 512];
-    let mut place = [0u16; 512];
-    let mut next = [0u16; 512];
-    incidence_front(n, ends, &mut starts, &mut entries);
+    let mut listed = [0u16; 4096];
+    let mut place = [0u16; 4096];
+    let mut next = [0u16; 4096];
+    incidence_front(items.nodes, ends, &mut starts, &mut entries);
     copy_colors(presets, colors);
-    let len = listing::list_uncolored(n, presets, &mut listed, &mut place);
+    let len = listing::list_uncolored(items.count, presets, &mut listed, &mut place);
     rounds::color_rounds(
-        n,
+        items,
         ends,
         &starts,
         &entries,
@@ -56,9 +58,37 @@ pub fn color_nodes(n: usize, ends: &[u16], presets: &[u16], colors: &mut [u16]) 
             return Coloring::Refused(refusal);
         }
         Checked::Accepted(_) => {
-            color_checked(n, ends, presets, colors);
+            let items = Items {
+                edges: false,
+                nodes: n,
+                count: n,
+            };
+            color_checked(items, ends, presets, colors);
             let days = days_of(colors);
             Coloring::Accepted { days }
+        }
+    }
+}
+
+// Edge colouring with presets, by independent sets of the line list, which is never stored.
+pub fn color_edges(n: usize, ends: &[u16], presets: &[u16], colors: &mut [u16]) -> Coloring
+    ensures { λ r. ⌜ reportOfColoring r ≡ greedyEdges independentSetColors n (now (ends .entry)) (now (presets .entry)) (now (colors .entry)) .report ⌝ }
+    ensures { λ _. ⌜ now (colors .exit) ≡ greedyEdges independentSetColors n (now (ends .entry)) (now (presets .entry)) (now (colors .entry)) .colors ⌝ }
+{
+    match check_edges(n, ends, presets.len(), colors.len()) {
+        Checked::Refused(refusal) => {
+            return Coloring::Refused(refusal);
+        }
+        Checked::Accepted(_) => {
+            let items = Items {
+                edges: true,
+                nodes: n,
+                count: ends.len() / 2,
+            };
+            color_checked(items, ends, presets, colors);
+            Coloring::Accepted {
+                days: days_of(colors),
+            }
         }
     }
 }

@@ -1,14 +1,17 @@
-// The rounds: in the round of a colour each listed node gets it whose neighbours have not got it before.
+// The rounds: in the round of a colour each listed item gets it whose neighbours have not got it before.
 ghost use mathlib.Core.Path.{_≡_};
-ghost use mathlib.Core.List.{List, []};
-ghost use Prim.Native.Nat.{ℕ, _≤_, _<_};
+ghost use Prim.Native.Nat.{_<_};
 ghost use lib.ListN.{length, take};
 ghost use Rattle.graph.specs.CheckLaws.{Passed};
 ghost use Rattle.graph.specs.Edges.{edgeCount, neighbors};
 ghost use Rattle.graph.specs.StretchLaws.{Table};
 ghost use Rattle.greedy.specs.IndependentSet.{putOffAll, putOffPresets, colorListed, rounds};
+ghost use Rattle.independent_set.specs.Items.{neighborsOf, Tabled};
 ghost use Rattle.independent_set.specs.Listing.{Listing, Held, listsAt};
 ghost use Rattle.independent_set.specs.Rounds.{Rounded};
+use crate::edges::put_off_sharing;
+use crate::items::Item;
+use crate::items::Items;
 use crate::listing::Counts;
 use crate::listing::put_off;
 use crate::listing::take_out;
@@ -20,7 +23,7 @@ use graph::edges_at;
 use graph::far_end;
 
 // The listed neighbours of a node are put off, in incidence order.
-fn put_off_neighbors(
+fn put_off_far_ends(
     n: usize,
     ends: &[u16],
     starts: &[u16],
@@ -43,15 +46,42 @@ fn put_off_neighbors(
     let mut i = 0;
     while i < edges.len() {
         let far = far_end(ends, EdgeIndex(edges[i]), node);
-        reached = put_off(n, listed, place, next, reached, far);
+        reached = put_off(n, listed, place, next, reached, Item(far.0));
         i += 1;
     }
     reached
 }
 
+// The listed neighbours of an item are put off, in incidence order.
+fn put_off_neighbors(
+    items: Items,
+    ends: &[u16],
+    starts: &[u16],
+    entries: &[u16],
+    listed: &mut [u16],
+    place: &mut [u16],
+    next: &mut [u16],
+    counts: Counts,
+    item: Item,
+) -> Counts
+    requires { ⌜ Tabled items (now ends) (now starts) (now entries) ⌝ }
+    requires { ⌜ Held (items .count) (now listed) (now place) (now next) (counts .listed) (counts .next) (listsAt (now listed) (now next) (counts .listed) (counts .next)) ⌝ }
+    requires { ⌜ item .0 < items .count ⌝ }
+    ensures { λ r. ⌜ Held (items .count) (now (listed .exit)) (now (place .exit)) (now (next .exit)) (r .listed) (r .next)
+        (putOffAll (listsAt (now (listed .entry)) (now (next .entry)) (counts .listed) (counts .next)) (neighborsOf items (now (ends .entry)) (item .0))) ⌝ }
+{
+    let n = items.nodes;
+    if items.edges {
+        let edge = EdgeIndex(item.0);
+        return put_off_sharing(n, ends, starts, entries, listed, place, next, counts, edge);
+    }
+    let node = NodeIndex(item.0);
+    put_off_far_ends(n, ends, starts, entries, listed, place, next, counts, node)
+}
+
 // The listed neighbours of the presets of a colour are put off.
 fn put_off_presets(
-    n: usize,
+    items: Items,
     ends: &[u16],
     starts: &[u16],
     entries: &[u16],
@@ -62,21 +92,20 @@ fn put_off_presets(
     counts: Counts,
     color: Color,
 ) -> Counts
-    requires { ⌜ Passed n (now ends) ⌝ }
-    requires { ⌜ Table (now ends) n (now starts) (now entries) ⌝ }
-    requires { ⌜ Held n (now listed) (now place) (now next) (counts .listed) (counts .next) (listsAt (now listed) (now next) (counts .listed) (counts .next)) ⌝ }
-    requires { ⌜ length (now presets) ≡ n ⌝ }
-    ensures { λ r. ⌜ Held n (now (listed .exit)) (now (place .exit)) (now (next .exit)) (r .listed) (r .next)
-        (putOffPresets (neighbors (now (ends .entry)) (edgeCount (now (ends .entry)))) (now (presets .entry)) (color .0) n (listsAt (now (listed .entry)) (now (next .entry)) (counts .listed) (counts .next))) ⌝ }
+    requires { ⌜ Tabled items (now ends) (now starts) (now entries) ⌝ }
+    requires { ⌜ Held (items .count) (now listed) (now place) (now next) (counts .listed) (counts .next) (listsAt (now listed) (now next) (counts .listed) (counts .next)) ⌝ }
+    requires { ⌜ length (now presets) ≡ items .count ⌝ }
+    ensures { λ r. ⌜ Held (items .count) (now (listed .exit)) (now (place .exit)) (now (next .exit)) (r .listed) (r .next)
+        (putOffPresets (neighborsOf items (now (ends .entry))) (now (presets .entry)) (color .0) (items .count) (listsAt (now (listed .entry)) (now (next .entry)) (counts .listed) (counts .next))) ⌝ }
 {
     let mut reached = counts;
     let mut v = 0;
-    while v < n {
-        let node = v;
+    while v < items.count {
+        let item = v;
         v += 1;
-        if presets[node] == color.0 {
+        if presets[item] == color.0 {
             reached = put_off_neighbors(
-                n,
+                items,
                 ends,
                 starts,
                 entries,
@@ -84,17 +113,17 @@ fn put_off_presets(
                 place,
                 next,
                 reached,
-                NodeIndex(node as u16),
+                Item(item as u16),
             );
         }
     }
     reached
 }
 
-// The front node gets the colour and is taken out, and its listed neighbours are put off, until the list is empty; how many the next
+// The front item gets the colour and is taken out, and its listed neighbours are put off, until the list is empty; how many the next
 // list has.
 fn color_listed(
-    n: usize,
+    items: Items,
     ends: &[u16],
     starts: &[u16],
     entries: &[u16],
@@ -105,23 +134,22 @@ fn color_listed(
     counts: Counts,
     color: Color,
 ) -> usize
-    requires { ⌜ Passed n (now ends) ⌝ }
-    requires { ⌜ Table (now ends) n (now starts) (now entries) ⌝ }
-    requires { ⌜ Held n (now listed) (now place) (now next) (counts .listed) (counts .next) (listsAt (now listed) (now next) (counts .listed) (counts .next)) ⌝ }
-    requires { ⌜ length (now colors) ≡ n ⌝ }
-    ensures { λ r. ⌜ Rounded n (now (next .exit)) (now (place .exit)) r (now (colors .exit))
-        (colorListed (neighbors (now (ends .entry)) (edgeCount (now (ends .entry)))) (color .0) (counts .listed) (listsAt (now (listed .entry)) (now (next .entry)) (counts .listed) (counts .next)) (now (colors .entry))) ⌝ }
+    requires { ⌜ Tabled items (now ends) (now starts) (now entries) ⌝ }
+    requires { ⌜ Held (items .count) (now listed) (now place) (now next) (counts .listed) (counts .next) (listsAt (now listed) (now next) (counts .listed) (counts .next)) ⌝ }
+    requires { ⌜ length (now colors) ≡ items .count ⌝ }
+    ensures { λ r. ⌜ Rounded (items .count) (now (next .exit)) (now (place .exit)) r (now (colors .exit))
+        (colorListed (neighborsOf items (now (ends .entry))) (color .0) (counts .listed) (listsAt (now (listed .entry)) (now (next .entry)) (counts .listed) (counts .next)) (now (colors .entry))) ⌝ }
 {
     let mut reached = counts;
     while 0 < reached.listed {
         let len = reached.listed;
         let end = reached.next;
-        let front = NodeIndex(listed[0]);
+        let front = Item(listed[0]);
         let v = front.0 as usize;
         colors[v] = color.0;
-        take_out(n, listed, place, len, front);
+        take_out(items.count, listed, place, len, front);
         reached = put_off_neighbors(
-            n,
+            items,
             ends,
             starts,
             entries,
@@ -138,9 +166,9 @@ fn color_listed(
     reached.next
 }
 
-// One round after the other, until no node is left.
+// One round after the other, until no item is left.
 pub(crate) fn color_rounds(
-    n: usize,
+    items: Items,
     ends: &[u16],
     starts: &[u16],
     entries: &[u16],
@@ -151,22 +179,21 @@ pub(crate) fn color_rounds(
     colors: &mut [u16],
     len: usize,
 )
-    requires { ⌜ Passed n (now ends) ⌝ }
-    requires { ⌜ Table (now ends) n (now starts) (now entries) ⌝ }
-    requires { ⌜ Listing n (now listed) (now place) len (take len (now listed)) ⌝ }
-    requires { ⌜ (length (now presets) ≡ n) × (length (now next) ≡ 512) × (length (now colors) ≡ n) ⌝ }
-    ensures { λ _. ⌜ now (colors .exit) ≡ rounds (neighbors (now (ends .entry)) (edgeCount (now (ends .entry)))) n (now (presets .entry)) n 0 (take len (now (listed .entry))) (now (colors .entry)) ⌝ }
+    requires { ⌜ Tabled items (now ends) (now starts) (now entries) ⌝ }
+    requires { ⌜ Listing (items .count) (now listed) (now place) len (take len (now listed)) ⌝ }
+    requires { ⌜ (length (now presets) ≡ items .count) × (length (now next) ≡ 4096) × (length (now colors) ≡ items .count) ⌝ }
+    ensures { λ _. ⌜ now (colors .exit) ≡ rounds (neighborsOf items (now (ends .entry))) (items .count) (now (presets .entry)) (items .count) 0 (take len (now (listed .entry))) (now (colors .entry)) ⌝ }
 {
     let mut waiting = len;
     let mut r = 0;
-    while r < n {
+    while r < items.count {
         if waiting == 0 {
             return;
         }
         let color = Color(r as u16);
         r += 1;
         let left = put_off_presets(
-            n,
+            items,
             ends,
             starts,
             entries,
@@ -181,7 +208,7 @@ pub(crate) fn color_rounds(
             color,
         );
         waiting = color_listed(
-            n,
+            items,
             ends,
             starts,
             entries,
@@ -192,6 +219,6 @@ pub(crate) fn color_rounds(
             left,
             color,
         );
-        copy_colors(next, listed);
+        copy_colors(&next[..waiting], listed);
     }
 }

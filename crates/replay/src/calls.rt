@@ -225,6 +225,53 @@ fn call_node_color_by(
     put(text, end, b'\n')
 }
 
+fn call_edge_color(
+    text: &mut [u8],
+    waiting: usize,
+    n: usize,
+    ends: &[u16],
+    line: Line,
+    list: &mut [u16],
+) -> usize {
+    let c = cut(line.first, list);
+    let colors = &mut list[..c];
+    lend(colors);
+    let answer = greedy_color::greedy_edge_color(n, ends, colors);
+    let end = put_coloring(text, waiting, b"greedy_edge_color", answer);
+    let end = put_list(text, end, colors);
+    put(text, end, b'\n')
+}
+
+fn call_edge_color_by(
+    text: &mut [u8],
+    waiting: usize,
+    n: usize,
+    ends: &[u16],
+    presets: &[u16],
+    line: Line,
+    list: &mut [u16],
+) -> usize {
+    let c = cut(line.second, list);
+    let colors = &mut list[..c];
+    lend(colors);
+    let strategy = strategy_of(line.first);
+    let answer = greedy_color::greedy_edge_color_with_coloring_strategy(
+        n,
+        ends,
+        presets,
+        strategy,
+        colors,
+    );
+    let end = put_coloring(
+        text,
+        waiting,
+        b"greedy_edge_color_with_coloring_strategy",
+        answer,
+    );
+    let end = put_list(text, end, colors);
+    put(text, end, b'\n')
+}
+
 fn call_misra_gries(
     text: &mut [u8],
     waiting: usize,
@@ -284,6 +331,10 @@ pub fn call(
             line,
             list,
         ),
+        Name::GreedyEdgeColor => call_edge_color(text, waiting, n, ends, line, list),
+        Name::GreedyEdgeColorWithColoringStrategy => {
+            call_edge_color_by(text, waiting, n, ends, presets, line, list)
+        }
         Name::MisraGriesEdgeColor => call_misra_gries(text, waiting, n, ends, line, list),
         _ => waiting,
     }

@@ -15,6 +15,8 @@ pub enum Name {
     GreedyNodeColor,
     GreedyNodeColorWithPresetColors,
     GreedyNodeColorWithColoringStrategy,
+    GreedyEdgeColor,
+    GreedyEdgeColorWithColoringStrategy,
     MisraGriesEdgeColor,
     Unknown,
 }
@@ -68,6 +70,12 @@ fn name_of(word: &[u8]) -> Name {
     }
     if same(word, b"greedy_node_color_with_coloring_strategy") {
         return Name::GreedyNodeColorWithColoringStrategy;
+    }
+    if same(word, b"greedy_edge_color") {
+        return Name::GreedyEdgeColor;
+    }
+    if same(word, b"greedy_edge_color_with_coloring_strategy") {
+        return Name::GreedyEdgeColorWithColoringStrategy;
     }
     if same(word, b"misra_gries_edge_color") {
         return Name::MisraGriesEdgeColor;

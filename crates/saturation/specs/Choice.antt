@@ -1,4 +1,4 @@
--- The choice of the next node, by the counts that are kept.
+-- The choice of the next item, by the counts that are kept.
 use Prim.Native.Nat.{ℕ, suc, _+_, _<_}
 use mathlib.Core.Path.{_≡_, refl, sym, ap, subst, _∙_}
 use mathlib.Core.Logic.{inl, inr}
@@ -16,9 +16,9 @@ use Rattle.graph.specs.ColoredLaws.{color-read}
 use Rattle.greedy.specs.Turn.{uncolored}
 use Rattle.greedy.specs.UncoloredLaws.{last-colored, last-uncolored, uncolored-member}
 use Rattle.greedy.specs.Saturation.{greater, greatest}
-use Rattle.graph.specs.declared.NodeIndex.{NodeIndex}
+use Rattle.saturation.specs.declared.items.Item.{Item}
 use Rattle.saturation.specs.declared.turns.Choice.{Choice}
-use Rattle.saturation.specs.declared.turns.Choice.the-variants.{Node, Nothing}
+use Rattle.saturation.specs.declared.turns.Choice.the-variants.{Next, Nothing}
 use Rattle.saturation.specs.Counts.{Counted}
 
 module _ (saturations waiting : List ℕ) where
@@ -45,7 +45,7 @@ module _ (saturations waiting : List ℕ) where
   leader-last v [] x = refl
   leader-last v (u ∷ us) x = leader-last (cond (leads u v) u v) us x
 
-  -- The leader of the nodes below k that have no colour.
+  -- The leader of the items below k that have no colour.
   pub record Leads (colors : List ℕ) (k best : ℕ) : Type 0 where
     pub inside : best < k
     pub bare : colorOf colors best ≡ noColor
@@ -54,7 +54,7 @@ module _ (saturations waiting : List ℕ) where
     pub candidates : uncolored colors k ≡ first ∷ rest
     pub best-is : best ≡ leader first rest
 
-  -- The scan has passed the nodes below k; `length colors` stands for no node.
+  -- The scan has passed the items below k; `length colors` stands for none.
   pub record Scanned (colors : List ℕ) (k best : ℕ) : Type 0 where
     pub none : best ≡ length colors → uncolored colors k ≡ []
     pub some : (best ≡ length colors → ⊥) → Leads colors k best
@@ -117,27 +117,27 @@ module _ (saturations waiting : List ℕ) where
               };
             })
 
--- The answer of the scan over all nodes.
+-- The answer of the scan over all items.
 pub record Chosen (colors saturations waiting : List ℕ) (choice : Choice) : Type 0 where
   pub nothing : choice ≡ Nothing → uncolored colors (length colors) ≡ []
-  pub node : (v : NodeIndex) → choice ≡ Node v → Leads saturations waiting colors (length colors) (v .0)
+  pub next : (v : Item) → choice ≡ Next v → Leads saturations waiting colors (length colors) (v .0)
 
 module _ (colors saturations waiting : List ℕ) (k best : ℕ) (scanned : Scanned saturations waiting colors k best) (end : k ≡ length colors) where
   pub chosen-nothing : best ≡ length colors → Chosen colors saturations waiting Nothing
-  chosen-nothing e = record { nothing = λ _. ap (uncolored colors) (sym end) ∙ scanned .none e; node = λ v p. let z : _≡_ {A = ℕ} 0 1 = cc in absurd (omega arith) }
+  chosen-nothing e = record { nothing = λ _. ap (uncolored colors) (sym end) ∙ scanned .none e; next = λ v p. let z : _≡_ {A = ℕ} 0 1 = cc in absurd (omega arith) }
 
-  pub chosen-node : (best ≡ length colors → ⊥) → Chosen colors saturations waiting (Node (record { 0 = best }))
-  chosen-node n = record {
+  pub chosen-next : (best ≡ length colors → ⊥) → Chosen colors saturations waiting (Next (record { 0 = best }))
+  chosen-next n = record {
     nothing = λ p. let z : _≡_ {A = ℕ} 0 1 = cc in absurd (omega arith);
-    node = λ v p.
+    next = λ v p.
         let i : record { 0 = best } ≡ v = cc in
-        subst (λ (x : ℕ). Leads saturations waiting colors (length colors) x) (ap (λ (x : NodeIndex). x .0) i) (subst (λ (x : ℕ). Leads saturations waiting colors x best) end (scanned .some n));
+        subst (λ (x : ℕ). Leads saturations waiting colors (length colors) x) (ap (λ (x : Item). x .0) i) (subst (λ (x : ℕ). Leads saturations waiting colors x best) end (scanned .some n));
   }
 
 -- ---- the counts are those of the definition
 
 module _ (nb : ℕ → List ℕ) (n : ℕ) (colors saturations waiting : List ℕ) (counted : Counted nb n colors saturations waiting) where
-  -- Nodes that are counted.
+  -- Items that are counted.
   abbrev Candidate : ℕ → Type 0
   Candidate v = (v < n) × (colorOf colors v ≡ noColor)
 

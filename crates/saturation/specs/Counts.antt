@@ -1,4 +1,4 @@
--- The two counts of the nodes without a colour, and what becomes of them when a node takes a colour.
+-- The two counts of the items without a colour, and what becomes of them when an item takes a colour.
 use Prim.Native.Nat.{ℕ, suc, _+_, _≤_, _<_}
 use mathlib.Core.Path.{_≡_, sym, ap, subst, _∙_}
 use mathlib.Core.Logic.{_⊎_, inl, inr, _≢_}
@@ -13,7 +13,7 @@ use Rattle.graph.specs.Colored.{noColor, colorOf, isColored, coloredAmong}
 use Rattle.graph.specs.ColoredLaws.{color-set-same, color-set-other, is-colored-true, is-colored-false, colored-true, uncolored-false, colored-edge, edge-colored, colored-edges-length}
 use Rattle.greedy.specs.Saturation.{uncoloredAmong, saturation, uncoloredNeighbors}
 
--- Each node without a colour has its two counts: the different colours on its neighbours, and the neighbours that still wait for one.
+-- Each item without a colour has its two counts: the different colours on its neighbours, and the neighbours that still wait for one.
 pub record Counted (nb : ℕ → List ℕ) (n : ℕ) (colors saturations waiting : List ℕ) : Type 0 where
   pub differs : (v : ℕ) → v < n → colorOf colors v ≡ noColor → getD saturations v 0 ≡ saturation nb colors v
   pub waits : (v : ℕ) → v < n → colorOf colors v ≡ noColor → getD waiting v 0 ≡ uncoloredNeighbors nb colors v
@@ -28,9 +28,9 @@ mem-count k (x ∷ xs) (inr p) = omega (arith, mem-count k xs p)
 pub count-mem : (k : ℕ) (xs : List ℕ) → 0 < count k xs → Mem k xs
 count-mem k xs h = elim (dec-mem k xs) [ inl p ↦ p | inr p ↦ absurd (omega (arith, count-none k xs p)) ]
 
--- ---- the colours of these nodes
+-- ---- the colours of these items
 
--- The colours that stand on these nodes.
+-- The colours that stand on these items.
 unfoldable pub colorsAmong : List ℕ → List ℕ → List ℕ
 colorsAmong colors us = map (colorOf colors) (coloredAmong colors us)
 
@@ -49,12 +49,12 @@ different-length : (xs : List ℕ) → different xs ≤ length xs
 unfolding different
 different-length xs = pigeonhole (distinct xs) xs (distinct-nodup xs) (distinct-member xs)
 
--- No more different colours than nodes.
+-- No more different colours than items.
 pub different-few : (colors us : List ℕ) → different (colorsAmong colors us) ≤ length us
 unfolding colorsAmong
 different-few colors us = omega (arith, different-length (map (colorOf colors) (coloredAmong colors us)), length-map (coloredAmong colors us) (colorOf colors), colored-edges-length colors us)
 
--- ---- node v, which has no colour, takes c
+-- ---- item v, which has no colour, takes c
 
 module _ (colors : List ℕ) (v c : ℕ) (inside : v < length colors) (bare : colorOf colors v ≡ noColor) (real : c ≢ noColor) where
   here : colorOf (set colors v c) v ≢ noColor
@@ -91,7 +91,7 @@ module _ (colors : List ℕ) (v c : ℕ) (inside : v < length colors) (bare : co
       let e : r .0 ≢ v = λ q. r .3 (sym (r .2) ∙ (ap (colorOf colors) q ∙ bare)) in
       color-among (set colors v c) us x (r .0) (r .1) (color-set-other colors v c (r .0) e ∙ r .2) (r .3)
 
-  -- As many different colours as before where v is not among the nodes, or c stands on one of them already; else one more.
+  -- As many different colours as before where v is not among the items, or c stands on one of them already; else one more.
   pub different-stays : (us : List ℕ) → (Mem v us → Mem c (colorsAmong colors us)) → different (colorsAmong (set colors v c) us) ≡ different (colorsAmong colors us)
   different-stays us old = different-same (colorsAmong (set colors v c) us) (colorsAmong colors us)
       (λ x p. elim (colors-after us x p) [ inl (e, q) ↦ subst (λ (y : ℕ). Mem y (colorsAmong colors us)) (sym e) (old q) | inr q ↦ q ])

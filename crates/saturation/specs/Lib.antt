@@ -1,8 +1,11 @@
 -- Strategy Saturation with counts that are kept up to date.
+pub mod Items
 pub mod Counts
 pub mod Notes
 pub mod Touched
+pub mod Around
 pub mod Taken
 pub mod Start
 pub mod Choice
 pub mod Turns
+pub mod Same

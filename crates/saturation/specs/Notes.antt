@@ -1,4 +1,4 @@
--- What the neighbours of a node that takes a colour note: one neighbour fewer waits, and the colour is counted once.
+-- What the neighbours of an item that takes a colour note: one neighbour fewer waits, and the colour is counted once.
 use Prim.Native.Nat.{ℕ, suc, _+_, _-_, _≤_, _<_}
 use mathlib.Core.Path.{_≡_, refl, sym, ap, _∙_}
 use mathlib.Core.Logic.{inl, inr, _≢_}
@@ -6,14 +6,16 @@ use mathlib.Core.List.{List, [], _∷_, _++_, map}
 use native.Mathlib.Omega.{arith}
 use native.Mathlib.Numerals.{add-one}
 use lib.ListN.{length, getD, take, drop, set, take-append-drop}
-use lib.Seq.{take-suc, take-length, getD-set-same, getD-set-other}
+use lib.Seq.{take-suc, drop-cons, take-length, getD-set-same, getD-set-other}
 use Rattle.lists.specs.Tests.{dec-eq}
 use Rattle.lists.specs.Different.{count, count-append, count-here, count-there, count-none}
-use Rattle.graph.specs.Edges.{farEnd}
 use Rattle.graph.specs.Colored.{noColor, colorOf}
 use Rattle.graph.specs.ColoredLaws.{color-read}
+use Rattle.greedy.specs.Marks.{map-append}
+use Rattle.saturation.specs.declared.items.Kind.{Kind}
+use Rattle.saturation.specs.Items.{acrossOf}
 
--- A node's counts and mark, before and after it has noted the colour `times` times: it waits for as many fewer, and the colour is new to it unless the mark stood.
+-- An item's counts and mark, before and after it has noted the colour `times` times: it waits for as many fewer, and the colour is new to it unless the mark stood.
 pub record NotedTimes (times saturation₀ waiting₀ mark₀ saturation waiting mark : ℕ) : Type 0 where
   pub waits : waiting + times ≡ waiting₀
   pub not-yet : times ≡ 0 → (saturation ≡ saturation₀) × (mark ≡ mark₀)
@@ -34,18 +36,18 @@ more-noted a b s₀ w₀ m₀ s w m s′ w′ m′ p q = record {
   ];
 }
 
--- Each node without a colour has noted the colour as often as it stands among these nodes.
+-- Each item without a colour has noted the colour as often as it stands among these.
 pub record Noted (colors us saturations₀ waiting₀ marks₀ saturations waiting marks : List ℕ) : Type 0 where
   pub at : (u : ℕ) → u < length colors → colorOf colors u ≡ noColor
       → NotedTimes (count u us) (getD saturations₀ u 0) (getD waiting₀ u 0) (getD marks₀ u 0) (getD saturations u 0) (getD waiting u 0) (getD marks u 0)
 
-noted-none : (colors saturations waiting marks : List ℕ) → Noted colors [] saturations waiting marks saturations waiting marks
+pub noted-none : (colors saturations waiting marks : List ℕ) → Noted colors [] saturations waiting marks saturations waiting marks
 noted-none colors saturations waiting marks = record { at = λ u h e. rw (count-none u [] (λ p. p)) (none-noted _ _ _) }
 
-noted-more : (colors us ws s₀ w₀ m₀ s w m s′ w′ m′ : List ℕ) → Noted colors us s₀ w₀ m₀ s w m → Noted colors ws s w m s′ w′ m′ → Noted colors (us ++ ws) s₀ w₀ m₀ s′ w′ m′
+pub noted-more : (colors us ws s₀ w₀ m₀ s w m s′ w′ m′ : List ℕ) → Noted colors us s₀ w₀ m₀ s w m → Noted colors ws s w m s′ w′ m′ → Noted colors (us ++ ws) s₀ w₀ m₀ s′ w′ m′
 noted-more colors us ws s₀ w₀ m₀ s w m s′ w′ m′ p q = record { at = λ u h e. rw (count-append u us ws) (more-noted _ _ _ _ _ _ _ _ _ _ _ (p .at u h e) (q .at u h e)) }
 
--- ---- one node notes the colour
+-- ---- one item notes the colour
 
 module _ (colors s w m : List ℕ) (u : ℕ) where
   other : (x : ℕ) → x ≢ u → (s′ w′ m′ : List ℕ) → getD s′ x 0 ≡ getD s x 0 → getD w′ x 0 ≡ getD w x 0 → getD m′ x 0 ≡ getD m x 0
@@ -76,52 +78,62 @@ module _ (colors s w m : List ℕ) (u : ℕ) where
     ];
   }
 
--- ---- one far end after the other
+-- ---- one edge after the other
 
--- The far ends of these edges of v.
-unfoldable pub farEnds : List ℕ → ℕ → List ℕ → List ℕ
-farEnds ends v ks = map (λ (k : ℕ). farEnd ends k v) ks
+-- The items to which these edges of node w lead.
+unfoldable pub acrossAll : Kind → List ℕ → ℕ → List ℕ → List ℕ
+acrossAll kind ends w ks = map (λ (k : ℕ). acrossOf kind ends k w) ks
 
-map-append : (f : ℕ → ℕ) (js ks : List ℕ) → map f (js ++ ks) ≡ map f js ++ map f ks
-map-append f [] ks = refl
-map-append f (j ∷ js) ks = ap (λ (l : List ℕ). f j ∷ l) (map-append f js ks)
+-- Each item without a colour has room to note the colour as often as it stands among these.
+pub record Room (colors us saturations waiting marks : List ℕ) : Type 0 where
+  pub at : (u : ℕ) → u < length colors → colorOf colors u ≡ noColor → (count u us ≤ getD waiting u 0) × (getD marks u 0 ≡ 0 → getD saturations u 0 < 65535)
 
-far-ends-more : (ends : List ℕ) (v : ℕ) (ks : List ℕ) (i : ℕ) → i < length ks → farEnds ends v (take (i + 1) ks) ≡ farEnds ends v (take i ks) ++ farEnd ends (getD ks i 0) v ∷ []
-unfolding farEnds
-far-ends-more ends v ks i h = rw (add-one i, take-suc ks i 0 h) (map-append (λ (k : ℕ). farEnd ends k v) (take i ks) (getD ks i 0 ∷ []))
+pub room-first : (colors us ws s w m : List ℕ) → Room colors (us ++ ws) s w m → Room colors us s w m
+room-first colors us ws s w m room = record { at = λ u h e. let r = room .at u h e in (omega (arith, r .0, count-append u us ws), r .1) }
 
-far-ends-cut : (ends : List ℕ) (v : ℕ) (ks : List ℕ) (i : ℕ) → farEnds ends v ks ≡ farEnds ends v (take i ks) ++ farEnds ends v (drop i ks)
-unfolding farEnds
-far-ends-cut ends v ks i = ap (map (λ (k : ℕ). farEnd ends k v)) (sym (take-append-drop i ks)) ∙ map-append (λ (k : ℕ). farEnd ends k v) (take i ks) (drop i ks)
-
--- Each node without a colour has room to note the colour as often as it stands among these nodes.
-pub record Room (colors us saturations waiting : List ℕ) : Type 0 where
-  pub at : (u : ℕ) → u < length colors → colorOf colors u ≡ noColor → (count u us ≤ getD waiting u 0) × (getD saturations u 0 < 65535)
-
-module _ (ends colors edges : List ℕ) (v : ℕ) (s₀ w₀ m₀ s w m : List ℕ) (i : ℕ) where
-  pub notes-none : Noted colors (farEnds ends v (take 0 edges)) s w m s w m
-  unfolding farEnds
-  notes-none = noted-none colors s w m
-
-  -- The next far end has room.
-  pub notes-room : Room colors (farEnds ends v edges) s₀ w₀ → Noted colors (farEnds ends v (take i edges)) s₀ w₀ m₀ s w m → i < length edges
-      → (u : ℕ) → u ≡ farEnd ends (getD edges i 0) v → u < length colors → getD colors u 0 ≡ noColor → (0 < getD w u 0) × (getD m u 0 ≡ 0 → getD s u 0 < 65535)
-  notes-room room noted h u p b z =
-      let e = sym (color-read colors u 0 b) ∙ z in
-      let r = room .at u b e in
-      let t = noted .at u b e in
-      let more : count u (farEnds ends v (take (i + 1) edges)) ≡ count u (farEnds ends v (take i edges)) + 1 = ap (count u) (far-ends-more ends v edges i h) ∙ (count-append u (farEnds ends v (take i edges)) (farEnd ends (getD edges i 0) v ∷ []) ∙ omega (arith, ap (λ (x : ℕ). count u (x ∷ [])) (sym p), count-here u [], count-none u [] (λ q. q))) in
-      let all = ap (count u) (far-ends-cut ends v edges (i + 1)) ∙ count-append u (farEnds ends v (take (i + 1) edges)) (farEnds ends v (drop (i + 1) edges)) in (
-        omega (arith, r .0, t .waits, more, all),
+-- What is left of the room after the first of them.
+pub room-left : (colors us ws s₀ w₀ m₀ s w m : List ℕ) → Room colors (us ++ ws) s₀ w₀ m₀ → Noted colors us s₀ w₀ m₀ s w m → Room colors ws s w m
+room-left colors us ws s₀ w₀ m₀ s w m room noted = record {
+  at = λ u h e.
+      let r = room .at u h e in
+      let t = noted .at u h e in (
+        omega (arith, r .0, t .waits, count-append u us ws),
         λ z. elim (dec-eq (getD m₀ u 0) 0) [
-          | inl q ↦ elim (dec-eq (count u (farEnds ends v (take i edges))) 0) [ inl k ↦ omega (arith, r .1, t .not-yet k .0) | inr k ↦ absurd (t .new q k .1 z) ]
+          | inl q ↦ elim (dec-eq (count u us) 0) [ inl k ↦ omega (arith, r .1 q, t .not-yet k .0) | inr k ↦ absurd (t .new q k .1 z) ]
           | inr q ↦ absurd (t .old q .1 z)
         ],
-      )
+      );
+}
 
-  pub notes-more : (s′ w′ m′ : List ℕ) → Noted colors (farEnds ends v (take i edges)) s₀ w₀ m₀ s w m → i < length edges
-      → (u : ℕ) → u ≡ farEnd ends (getD edges i 0) v → Noted colors (u ∷ []) s w m s′ w′ m′ → Noted colors (farEnds ends v (take (i + 1) edges)) s₀ w₀ m₀ s′ w′ m′
-  notes-more s′ w′ m′ p h u e q = rw (far-ends-more ends v edges i h, sym e) (noted-more colors (farEnds ends v (take i edges)) (u ∷ []) s₀ w₀ m₀ s w m s′ w′ m′ p q)
+module _ (kind : Kind) (ends colors edges : List ℕ) (v : ℕ) (s₀ w₀ m₀ s w m : List ℕ) (i : ℕ) where
+  -- The items of the edges passed, and of those left.
+  abbrev passed : List ℕ
+  passed = acrossAll kind ends v (take i edges)
 
-  pub notes-all : Noted colors (farEnds ends v (take i edges)) s₀ w₀ m₀ s w m → i ≤ length edges → length edges ≤ i → Noted colors (farEnds ends v edges) s₀ w₀ m₀ s w m
+  across-cut : i < length edges → acrossAll kind ends v edges ≡ passed ++ acrossOf kind ends (getD edges i 0) v ∷ acrossAll kind ends v (drop (suc i) edges)
+  unfolding acrossAll
+  across-cut h = ap (map (λ (k : ℕ). acrossOf kind ends k v)) (sym (take-append-drop i edges) ∙ ap (λ (l : List ℕ). take i edges ++ l) (drop-cons edges i 0 h)) ∙ map-append (λ (k : ℕ). acrossOf kind ends k v) (take i edges) (getD edges i 0 ∷ drop (suc i) edges)
+
+  across-more : i < length edges → acrossAll kind ends v (take (i + 1) edges) ≡ passed ++ acrossOf kind ends (getD edges i 0) v ∷ []
+  unfolding acrossAll
+  across-more h = rw (add-one i, take-suc edges i 0 h) (map-append (λ (k : ℕ). acrossOf kind ends k v) (take i edges) (getD edges i 0 ∷ []))
+
+  pub notes-none : Noted colors (acrossAll kind ends v (take 0 edges)) s w m s w m
+  unfolding acrossAll
+  notes-none = noted-none colors s w m
+
+  -- The next item has room.
+  pub notes-room : Room colors (acrossAll kind ends v edges) s₀ w₀ m₀ → Noted colors passed s₀ w₀ m₀ s w m → i < length edges
+      → (u : ℕ) → u ≡ acrossOf kind ends (getD edges i 0) v → u < length colors → getD colors u 0 ≡ noColor → (0 < getD w u 0) × (getD m u 0 ≡ 0 → getD s u 0 < 65535)
+  notes-room room noted h u p b z =
+      let us = acrossAll kind ends v (drop (suc i) edges) in
+      let left : Room colors (u ∷ us) s w m = rw p (room-left colors passed (acrossOf kind ends (getD edges i 0) v ∷ us) s₀ w₀ m₀ s w m (rw (across-cut h) at room) noted) in
+      let r = left .at u b (sym (color-read colors u 0 b) ∙ z) in
+      (omega (arith, r .0, count-here u us), r .1)
+
+  pub notes-more : (s′ w′ m′ : List ℕ) → Noted colors passed s₀ w₀ m₀ s w m → i < length edges
+      → (u : ℕ) → u ≡ acrossOf kind ends (getD edges i 0) v → Noted colors (u ∷ []) s w m s′ w′ m′ → Noted colors (acrossAll kind ends v (take (i + 1) edges)) s₀ w₀ m₀ s′ w′ m′
+  notes-more s′ w′ m′ p h u e q = rw (across-more h, sym e) (noted-more colors passed (u ∷ []) s₀ w₀ m₀ s w m s′ w′ m′ p q)
+
+  pub notes-all : Noted colors passed s₀ w₀ m₀ s w m → i ≤ length edges → length edges ≤ i → Noted colors (acrossAll kind ends v edges) s₀ w₀ m₀ s w m
   notes-all p h k = let e : i ≡ length edges = omega arith in rw (e, take-length edges) at p

@@ -1,4 +1,4 @@
--- The counts before any node has a colour, and the presets that are set one after the other.
+-- The counts before any item has a colour, and the presets that are set one after the other.
 use Prim.Native.Nat.{ℕ, suc, _+_, _≤_, _<_}
 use mathlib.Core.Path.{_≡_, refl, sym, ap, _∙_}
 use mathlib.Core.Logic.{inl, inr}
@@ -6,52 +6,44 @@ use mathlib.Core.List.{List, [], _∷_, map}
 use native.Mathlib.Omega.{arith}
 use native.Mathlib.Nat.{not-suc-le-zero}
 use native.Mathlib.Decide.{decLt}
-use lib.ListN.{length, getD, set, replicate, length-map, getD-replicate, length-replicate, List·getD-eq-default}
+use lib.ListN.{length, getD, set, replicate, getD-replicate, length-replicate, List·getD-eq-default}
 use lib.Seq.{getD-set-same, getD-set-other, ext-getD}
 use Rattle.lists.specs.Tests.{dec-eq}
 use Rattle.lists.specs.Different.{different, different-none}
-use Rattle.graph.specs.CheckLaws.{Passed}
-use Rattle.graph.specs.Edges.{edgeCount, farEnd, neighbors}
-use Rattle.graph.specs.Stretch.{stretch}
-use Rattle.graph.specs.StretchLaws.{Table, table-size}
-use Rattle.graph.specs.NeighborLaws.{passed-degree}
 use Rattle.graph.specs.Colored.{noColor, colorOf, coloredAmong}
 use Rattle.graph.specs.ColoredLaws.{color-outside, color-read, color-set-same, color-set-other, uncolored-false}
 use Rattle.greedy.specs.Saturation.{uncoloredAmong}
+use Rattle.saturation.specs.declared.items.Kind.{Kind}
+use Rattle.saturation.specs.Items.{neighborsOf, Tabled, items-few, neighborhood}
 use Rattle.saturation.specs.Counts.{Counted, colorsAmong}
-use Rattle.saturation.specs.Notes.{farEnds}
-use Rattle.saturation.specs.Taken.{Ready, saturation-among, waiting-among, stretch-neighbors}
+use Rattle.saturation.specs.Taken.{Ready, saturation-among, waiting-among}
 
--- The nodes below v have no colour, and wait for all their neighbours.
-pub record Started (starts entries : List ℕ) (v : ℕ) (colors waiting : List ℕ) : Type 0 where
+-- The items below v have no colour, and wait for all their neighbours.
+pub record Started (nb : ℕ → List ℕ) (v : ℕ) (colors waiting : List ℕ) : Type 0 where
   pub bare : (u : ℕ) → u < v → colorOf colors u ≡ noColor
-  pub waits : (u : ℕ) → u < v → getD waiting u 0 ≡ length (stretch starts entries u)
+  pub waits : (u : ℕ) → u < v → getD waiting u 0 ≡ length (nb u)
 
-pub started-none : (starts entries colors waiting : List ℕ) → Started starts entries 0 colors waiting
-started-none starts entries colors waiting = record { bare = λ u h. absurd (not-suc-le-zero h); waits = λ u h. absurd (not-suc-le-zero h) }
+pub started-none : (nb : ℕ → List ℕ) (colors waiting : List ℕ) → Started nb 0 colors waiting
+started-none nb colors waiting = record { bare = λ u h. absurd (not-suc-le-zero h); waits = λ u h. absurd (not-suc-le-zero h) }
 
-pub started-more : (starts entries colors waiting edges : List ℕ) (v x : ℕ) → Started starts entries v colors waiting → v < length colors → v < length waiting → edges ≡ stretch starts entries v → x ≡ length edges
-    → Started starts entries (v + 1) (set colors v 65535) (set waiting v x)
-started-more starts entries colors waiting edges v x p h k e q = record {
+pub started-more : (nb : ℕ → List ℕ) (colors waiting : List ℕ) (v x : ℕ) → Started nb v colors waiting → v < length colors → v < length waiting → x ≡ length (nb v) → Started nb (v + 1) (set colors v 65535) (set waiting v x)
+started-more nb colors waiting v x p h k q = record {
   bare = λ u b. elim (dec-eq u v) [
     | inl z ↦ rw z (color-set-same colors v 65535 h)
     | inr z ↦ color-set-other colors v 65535 u z ∙ p .bare u (omega arith)
   ];
   waits = λ u b. elim (dec-eq u v) [
-    | inl z ↦ rw z (getD-set-same waiting v x 0 k ∙ (q ∙ ap length e))
+    | inl z ↦ rw z (getD-set-same waiting v x 0 k ∙ q)
     | inr z ↦ getD-set-other waiting v u x 0 z ∙ p .waits u (omega arith)
   ];
 }
 
-pub started-all : (starts entries colors waiting : List ℕ) (v n : ℕ) → Started starts entries v colors waiting → v ≤ n → n ≤ v → Started starts entries n colors waiting
-started-all starts entries colors waiting v n p h k = let e : v ≡ n = omega arith in rw e at p
+pub started-all : (nb : ℕ → List ℕ) (colors waiting : List ℕ) (v n : ℕ) → Started nb v colors waiting → v ≤ n → n ≤ v → Started nb n colors waiting
+started-all nb colors waiting v n p h k = let e : v ≡ n = omega arith in rw e at p
 
--- A stretch has no more edges than the graph.
-pub stretch-few : (n : ℕ) (ends starts entries : List ℕ) → Passed n ends → Table ends n starts entries → (v : ℕ) → v < n → length (stretch starts entries v) ≤ 65535
-unfolding farEnds
-stretch-few n ends starts entries p table v h =
-    let e = ap length (stretch-neighbors ends starts entries n v table h) in
-    omega (arith, length-map (stretch starts entries v) (λ (k : ℕ). farEnd ends k v), e, passed-degree n ends p v)
+-- An item has fewer neighbours than a count can tell.
+pub neighbors-few : (kind : Kind) (ends starts entries : List ℕ) (items : ℕ) → Tabled kind ends starts entries items → (v x : ℕ) → v < items → x ≡ length (neighborsOf kind ends v) → x < 65536
+neighbors-few kind ends starts entries items t v x h e = omega (arith, neighborhood kind ends items (t .sized) .few v h)
 
 none-colored : (colors us : List ℕ) → ((u : ℕ) → colorOf colors u ≡ noColor) → coloredAmong colors us ≡ []
 unfolding coloredAmong
@@ -63,47 +55,39 @@ unfolding uncoloredAmong
 all-uncolored colors [] bare = refl
 all-uncolored colors (u ∷ us) bare = rw (uncolored-false colors u (bare u)) (ap suc (all-uncolored colors us bare))
 
-module _ (n : ℕ) (ends starts entries colors saturations waiting : List ℕ) where
-  abbrev nb : ℕ → List ℕ
-  nb = neighbors ends (edgeCount ends)
-
-  started-counted : Table ends n starts entries → length colors ≡ n → Started starts entries n colors waiting → ((v : ℕ) → getD saturations v 0 ≡ 0)
-      → Counted (neighbors ends (edgeCount ends)) n colors saturations waiting
-  unfolding colorsAmong farEnds
-  started-counted table size p zeros =
-      let bare : (u : ℕ) → colorOf colors u ≡ noColor = λ u. elim (decLt u n) [ yes h ↦ p .bare u h | no h ↦ color-outside colors u (omega arith) ] in
-      record {
-        differs = λ v h e. sym (saturation-among nb colors v ∙ (ap (λ (l : List ℕ). different (map (colorOf colors) l)) (none-colored colors (nb v) bare) ∙ (different-none ∙ sym (zeros v))));
-        waits = λ v h e. sym (waiting-among nb colors v ∙ (all-uncolored colors (nb v) bare ∙ (ap length (sym (stretch-neighbors ends starts entries n v table h)) ∙ (length-map (stretch starts entries v) (λ (k : ℕ). farEnd ends k v) ∙ sym (p .waits v h)))));
-      }
-
--- A slice with a place for each node gives n.
-pub passed-size : (n : ℕ) (ends colors : List ℕ) → Passed n ends → length colors ≡ n → Passed (length colors) ends
-passed-size n ends colors p e = rw e p
+started-counted : (nb : ℕ → List ℕ) (n : ℕ) (colors saturations waiting : List ℕ) → length colors ≡ n → Started nb n colors waiting → ((v : ℕ) → getD saturations v 0 ≡ 0) → Counted nb n colors saturations waiting
+unfolding colorsAmong
+started-counted nb n colors saturations waiting size p zeros =
+    let bare : (u : ℕ) → colorOf colors u ≡ noColor = λ u. elim (decLt u n) [ yes h ↦ p .bare u h | no h ↦ color-outside colors u (omega arith) ] in
+    record {
+      differs = λ v h e. sym (saturation-among nb colors v ∙ (ap (λ (l : List ℕ). different (map (colorOf colors) l)) (none-colored colors (nb v) bare) ∙ (different-none ∙ sym (zeros v))));
+      waits = λ v h e. sym (waiting-among nb colors v ∙ (all-uncolored colors (nb v) bare ∙ sym (p .waits v h)));
+    }
 
 zero-at : (n v : ℕ) → _≡_ {A = ℕ} (getD (replicate n 0) v 0) 0
 zero-at n v = elim (decLt v n) [ yes h ↦ getD-replicate n v 0 0 h | no h ↦ List·getD-eq-default (replicate n 0) 0 (rw (length-replicate {A = ℕ} n 0) (omega arith)) ]
 
 -- The counts are ready for the presets.
-pub started-ready : (ends starts entries colors colors′ saturations waiting′ : List ℕ) → Passed (length colors) ends → Table ends (length colors) starts entries
-    → length colors′ ≡ length colors → saturations ≡ replicate 512 0 → length waiting′ ≡ 512 → Started starts entries (length colors) colors′ waiting′ → Ready ends starts entries colors′ saturations waiting′
-started-ready ends starts entries colors colors′ saturations waiting′ p table size zeros room started = record {
-  passed = passed-size (length colors) ends colors′ p size;
-  table = table-size ends colors′ starts entries (length colors) table size;
-  counted = rw size (started-counted (length colors) ends starts entries colors′ saturations waiting′ table size started (λ v. ap (λ (l : List ℕ). getD l v 0) zeros ∙ zero-at 512 v));
-  saturations-room = omega (arith, p .nodes, ap length zeros ∙ length-replicate {A = ℕ} 512 0);
-  waiting-room = omega (arith, p .nodes);
-}
+pub started-ready : (kind : Kind) (ends starts entries : List ℕ) (items : ℕ) (colors saturations waiting : List ℕ) → Tabled kind ends starts entries items
+    → length colors ≡ items → saturations ≡ replicate 4096 0 → length waiting ≡ 4096 → Started (neighborsOf kind ends) items colors waiting → Ready kind ends starts entries colors saturations waiting
+started-ready kind ends starts entries items colors saturations waiting tabled size zeros room started =
+    let few = items-few kind ends items (tabled .sized) in
+    record {
+      tabled = rw size tabled;
+      counted = rw size (started-counted (neighborsOf kind ends) items colors saturations waiting size started (λ v. ap (λ (l : List ℕ). getD l v 0) zeros ∙ zero-at 4096 v));
+      saturations-room = omega (arith, few, ap length zeros ∙ length-replicate {A = ℕ} 4096 0);
+      waiting-room = omega (arith, few);
+    }
 
 -- ---- presets
 
--- The nodes below v have their presets, the others no colour.
+-- The items below v have their presets, the others no colour.
 pub record Preset (presets : List ℕ) (v : ℕ) (colors : List ℕ) : Type 0 where
   pub done : (u : ℕ) → u < v → colorOf colors u ≡ colorOf presets u
   pub bare : (u : ℕ) → v ≤ u → colorOf colors u ≡ noColor
 
-pub preset-none : (n : ℕ) (starts entries presets colors waiting : List ℕ) → length colors ≡ n → Started starts entries n colors waiting → Preset presets 0 colors
-preset-none n starts entries presets colors waiting size p = record {
+pub preset-none : (nb : ℕ → List ℕ) (n : ℕ) (presets colors waiting : List ℕ) → length colors ≡ n → Started nb n colors waiting → Preset presets 0 colors
+preset-none nb n presets colors waiting size p = record {
   done = λ u h. absurd (not-suc-le-zero h);
   bare = λ u h. elim (decLt u n) [ yes b ↦ p .bare u b | no b ↦ color-outside colors u (omega arith) ];
 }

@@ -11,7 +11,7 @@ use Rattle.saturation.specs.Counts.{Counted}
 use Rattle.saturation.specs.Choice.{Leads, leads-chosen}
 
 module _ (nb : ℕ → List ℕ) (n : ℕ) where
-  -- One turn, which changes nothing where every node has a colour.
+  -- One turn, which changes nothing where every item has a colour.
   unfoldable pub turnOf : List ℕ → List ℕ
   turnOf colors = elim (uncolored colors n) [ [] ↦ colors | v ∷ vs ↦ colorItem nb colors (greatest nb colors v vs) ]
 
@@ -24,7 +24,7 @@ module _ (nb : ℕ → List ℕ) (n : ℕ) where
   unfolding turnOf colorItem
   turn-chosen colors colors′ saturations waiting best c counted l e p = p ∙ rw (turnOf, l .candidates, sym (leads-chosen nb n colors saturations waiting counted best l), e)
 
-  -- Where every node has a colour the run is over.
+  -- Where every item has a colour the run is over.
   over : (turns : ℕ) (colors : List ℕ) → uncolored colors n ≡ [] → saturationFrom nb n turns colors ≡ colors
   unfolding saturationFrom
   over zero colors e = refl

@@ -1,33 +1,41 @@
-// Greedy node colouring by saturation. The two counts that decide which node is next are kept up to date from turn to turn.
+// Greedy colouring by saturation, of nodes or of edges. The two counts that decide which item is next are kept up to date from turn to turn.
 ghost use mathlib.Core.Path.{_≡_};
 ghost use lib.ListN.{length};
 ghost use Rattle.graph.specs.Report.{reportOfColoring};
 ghost use Rattle.graph.specs.CheckLaws.{Passed};
-ghost use Rattle.graph.specs.Edges.{edgeCount, neighbors};
+ghost use Rattle.graph.specs.Color.{daysOf};
 ghost use Rattle.greedy.specs.Saturation.{saturationColors};
-ghost use Rattle.greedy.specs.Call.{greedyNodes};
+ghost use Rattle.greedy.specs.Call.{greedyNodes, greedyEdges};
+ghost use Rattle.saturation.specs.Items.{itemsOf};
+ghost use Rattle.saturation.specs.Same.{listNeighbors};
 use graph::Checked;
 use graph::Coloring;
 use graph::days_of;
 use graph::incidence_front;
+use greedy::check_edges;
 use greedy::check_nodes;
+use items::Kind;
 use turns::run;
 
 mod counts;
+mod items;
+mod marks;
 mod turns;
 
-// A graph that passed the checks, with a preset and a colour for each node.
-fn color_checked(n: usize, ends: &[u16], presets: &[u16], colors: &mut [u16])
+// A graph that passed the checks, with a preset and a colour for each item. The answer is how many days the colours take.
+fn color_checked(kind: Kind, n: usize, ends: &[u16], presets: &[u16], colors: &mut [u16]) -> usize
     requires { ⌜ Passed n (now ends) ⌝ }
-    requires { ⌜ (length (now presets) ≡ n) × (length (now colors) ≡ n) ⌝ }
-    ensures { λ _. ⌜ now (colors .exit) ≡ saturationColors (neighbors (now (ends .entry)) (edgeCount (now (ends .entry)))) n (now (presets .entry)) ⌝ }
+    requires { ⌜ (length (now presets) ≡ itemsOf kind n (now ends)) × (length (now colors) ≡ itemsOf kind n (now ends)) ⌝ }
+    ensures { λ r. ⌜ r ≡ daysOf (now (colors .exit)) ⌝ }
+    ensures { λ _. ⌜ now (colors .exit) ≡ saturationColors (listNeighbors kind n (now (ends .entry))) (itemsOf kind n (now (ends .entry))) (now (presets .entry)) ⌝ }
 {
     let mut starts = [0u16; 513];
     let mut entries = [0u16; 8192];
     incidence_front(n, ends, &mut starts, &mut entries);
-    let mut saturations = [0u16; 512];
-    let mut waiting = [0u16; 512];
+    let mut saturations = [0u16; 4096];
+    let mut waiting = [0u16; 4096];
     run(
+        kind,
         ends,
         &starts,
         &entries,
@@ -36,6 +44,7 @@ fn color_checked(n: usize, ends: &[u16], presets: &[u16], colors: &mut [u16])
         &mut saturations,
         &mut waiting,
     );
+    days_of(colors)
 }
 
 // Presets are set first; then the node with the most different colours on its neighbours is next, among these the one with the most
@@ -49,8 +58,23 @@ pub fn color_nodes(n: usize, ends: &[u16], presets: &[u16], colors: &mut [u16]) 
             return Coloring::Refused(refusal);
         }
         Checked::Accepted(_graph) => {
-            color_checked(n, ends, presets, colors);
-            let days = days_of(colors);
+            let days = color_checked(Kind::Nodes, n, ends, presets, colors);
+            Coloring::Accepted { days }
+        }
+    }
+}
+
+// The same with edges for nodes: neighbours are the edges that share an end.
+pub fn color_edges(n: usize, ends: &[u16], presets: &[u16], colors: &mut [u16]) -> Coloring
+    ensures { λ r. ⌜ reportOfColoring r ≡ greedyEdges saturationColors n (now (ends .entry)) (now (presets .entry)) (now (colors .entry)) .report ⌝ }
+    ensures { λ _. ⌜ now (colors .exit) ≡ greedyEdges saturationColors n (now (ends .entry)) (now (presets .entry)) (now (colors .entry)) .colors ⌝ }
+{
+    match check_edges(n, ends, presets.len(), colors.len()) {
+        Checked::Refused(refusal) => {
+            return Coloring::Refused(refusal);
+        }
+        Checked::Accepted(_graph) => {
+            let days = color_checked(Kind::Edges, n, ends, presets, colors);
             Coloring::Accepted { days }
         }
     }

@@ -1,33 +1,32 @@
-// The presets, and then turn by turn the node that the counts choose.
+// The presets, and then turn by turn the item that the counts choose.
 ghost use mathlib.Core.Path.{_≡_};
 ghost use Prim.Native.Nat.{_≤_, _<_};
 ghost use lib.ListN.{length, replicate};
-ghost use Rattle.graph.specs.CheckLaws.{Passed};
-ghost use Rattle.graph.specs.Edges.{edgeCount, neighbors};
-ghost use Rattle.graph.specs.StretchLaws.{Table};
 ghost use Rattle.greedy.specs.Saturation.{saturationColors};
+ghost use Rattle.saturation.specs.Items.{neighborsOf, Tabled};
 ghost use Rattle.saturation.specs.Taken.{Ready};
 ghost use Rattle.saturation.specs.Start.{Preset};
 ghost use Rattle.saturation.specs.Choice.{leads, Chosen};
 ghost use Rattle.saturation.specs.Turns.{turnOf};
 use crate::counts::start;
 use crate::counts::take_color;
+use crate::items::Item;
+use crate::items::Kind;
+use crate::items::free_color;
 use graph::Color;
-use graph::NodeIndex;
-use greedy::smallest_color;
 
-// The node whose turn it is, or that all nodes have a colour.
+// The item whose turn it is, or that all items have a colour.
 pub enum Choice {
-    Node(NodeIndex),
+    Next(Item),
     Nothing,
 }
 
-// Whether a node goes before another by the two counts.
-fn goes_before(saturations: &[u16], waiting: &[u16], node: NodeIndex, other: NodeIndex) -> bool
-    requires { ⌜ (node .0 < length (now saturations)) × (other .0 < length (now saturations)) × (node .0 < length (now waiting)) × (other .0 < length (now waiting)) ⌝ }
-    ensures { λ r. ⌜ r ≡ leads (now (saturations .entry)) (now (waiting .entry)) (node .0) (other .0) ⌝ }
+// Whether an item goes before another by the two counts.
+fn goes_before(saturations: &[u16], waiting: &[u16], item: Item, other: Item) -> bool
+    requires { ⌜ (item .0 < length (now saturations)) × (other .0 < length (now saturations)) × (item .0 < length (now waiting)) × (other .0 < length (now waiting)) ⌝ }
+    ensures { λ r. ⌜ r ≡ leads (now (saturations .entry)) (now (waiting .entry)) (item .0) (other .0) ⌝ }
 {
-    let u = node.0 as usize;
+    let u = item.0 as usize;
     let v = other.0 as usize;
     if saturations[u] == saturations[v] {
         return waiting[v] < waiting[u];
@@ -35,37 +34,33 @@ fn goes_before(saturations: &[u16], waiting: &[u16], node: NodeIndex, other: Nod
     saturations[v] < saturations[u]
 }
 
-// The lowest of the nodes without a colour that no other goes before.
+// The lowest of the items without a colour that no other goes before.
 fn choose(colors: &[u16], saturations: &[u16], waiting: &[u16]) -> Choice
-    requires { ⌜ (length (now colors) ≤ 512) × (length (now colors) ≤ length (now saturations)) × (length (now colors) ≤ length (now waiting)) ⌝ }
+    requires { ⌜ (length (now colors) ≤ 4096) × (length (now colors) ≤ length (now saturations)) × (length (now colors) ≤ length (now waiting)) ⌝ }
     ensures { λ r. ⌜ Chosen (now (colors .entry)) (now (saturations .entry)) (now (waiting .entry)) r ⌝ }
 {
     let mut best = colors.len();
     let mut v = 0;
     while v < colors.len() {
-        let node = v;
+        let item = v;
         v += 1;
-        if colors[node] == Color::NONE {
+        if colors[item] == Color::NONE {
             if best == colors.len() {
-                best = node;
-            } else if goes_before(
-                saturations,
-                waiting,
-                NodeIndex(node as u16),
-                NodeIndex(best as u16),
-            ) {
-                best = node;
+                best = item;
+            } else if goes_before(saturations, waiting, Item(item as u16), Item(best as u16)) {
+                best = item;
             }
         }
     }
     if best == colors.len() {
         return Choice::Nothing;
     }
-    Choice::Node(NodeIndex(best as u16))
+    Choice::Next(Item(best as u16))
 }
 
-// One turn: the chosen node takes the smallest colour that no neighbour has.
+// One turn: the chosen item takes the smallest colour that no neighbour has.
 fn turn(
+    kind: Kind,
     ends: &[u16],
     starts: &[u16],
     entries: &[u16],
@@ -73,30 +68,32 @@ fn turn(
     saturations: &mut [u16],
     waiting: &mut [u16],
 )
-    requires { ⌜ Ready (now ends) (now starts) (now entries) (now colors) (now saturations) (now waiting) ⌝ }
-    ensures { λ _. ⌜ now (colors .exit) ≡ turnOf (neighbors (now (ends .entry)) (edgeCount (now (ends .entry)))) (length (now (colors .entry))) (now (colors .entry)) ⌝ }
-    ensures { λ _. ⌜ Ready (now (ends .entry)) (now (starts .entry)) (now (entries .entry)) (now (colors .exit)) (now (saturations .exit)) (now (waiting .exit)) ⌝ }
+    requires { ⌜ Ready kind (now ends) (now starts) (now entries) (now colors) (now saturations) (now waiting) ⌝ }
+    ensures { λ _. ⌜ now (colors .exit) ≡ turnOf (neighborsOf kind (now (ends .entry))) (length (now (colors .entry))) (now (colors .entry)) ⌝ }
+    ensures { λ _. ⌜ Ready kind (now (ends .entry)) (now (starts .entry)) (now (entries .entry)) (now (colors .exit)) (now (saturations .exit)) (now (waiting .exit)) ⌝ }
 {
     match choose(colors, saturations, waiting) {
         Choice::Nothing => {}
-        Choice::Node(node) => {
-            let color = smallest_color(ends, starts, entries, colors, node);
+        Choice::Next(item) => {
+            let color = free_color(kind, ends, starts, entries, colors, item);
             take_color(
+                kind,
                 ends,
                 starts,
                 entries,
                 colors,
                 saturations,
                 waiting,
-                node,
+                item,
                 color,
             );
         }
     }
 }
 
-// As many turns as there are nodes.
+// As many turns as there are items.
 fn take_turns(
+    kind: Kind,
     ends: &[u16],
     starts: &[u16],
     entries: &[u16],
@@ -104,18 +101,19 @@ fn take_turns(
     saturations: &mut [u16],
     waiting: &mut [u16],
 )
-    requires { ⌜ Ready (now ends) (now starts) (now entries) (now colors) (now saturations) (now waiting) ⌝ }
-    ensures { λ _. ⌜ now (colors .exit) ≡ saturationColors (neighbors (now (ends .entry)) (edgeCount (now (ends .entry)))) (length (now (colors .entry))) (now (colors .entry)) ⌝ }
+    requires { ⌜ Ready kind (now ends) (now starts) (now entries) (now colors) (now saturations) (now waiting) ⌝ }
+    ensures { λ _. ⌜ now (colors .exit) ≡ saturationColors (neighborsOf kind (now (ends .entry))) (length (now (colors .entry))) (now (colors .entry)) ⌝ }
 {
     let mut turns = 0;
     while turns < colors.len() {
-        turn(ends, starts, entries, colors, saturations, waiting);
+        turn(kind, ends, starts, entries, colors, saturations, waiting);
         turns += 1;
     }
 }
 
-// The presets, one node after the other.
+// The presets, one item after the other.
 fn set_presets(
+    kind: Kind,
     ends: &[u16],
     starts: &[u16],
     entries: &[u16],
@@ -124,21 +122,22 @@ fn set_presets(
     saturations: &mut [u16],
     waiting: &mut [u16],
 )
-    requires { ⌜ Ready (now ends) (now starts) (now entries) (now colors) (now saturations) (now waiting) ⌝ }
+    requires { ⌜ Ready kind (now ends) (now starts) (now entries) (now colors) (now saturations) (now waiting) ⌝ }
     requires { ⌜ (length (now colors) ≡ length (now presets)) × Preset (now presets) 0 (now colors) ⌝ }
     ensures { λ _. ⌜ now (colors .exit) ≡ now (presets .entry) ⌝ }
-    ensures { λ _. ⌜ Ready (now (ends .entry)) (now (starts .entry)) (now (entries .entry)) (now (colors .exit)) (now (saturations .exit)) (now (waiting .exit)) ⌝ }
+    ensures { λ _. ⌜ Ready kind (now (ends .entry)) (now (starts .entry)) (now (entries .entry)) (now (colors .exit)) (now (saturations .exit)) (now (waiting .exit)) ⌝ }
 {
     let mut v = 0;
     while v < presets.len() {
         take_color(
+            kind,
             ends,
             starts,
             entries,
             colors,
             saturations,
             waiting,
-            NodeIndex(v as u16),
+            Item(v as u16),
             Color(presets[v]),
         );
         v += 1;
@@ -147,6 +146,7 @@ fn set_presets(
 
 // The whole colouring: nothing coloured, the presets, the turns.
 pub(crate) fn run(
+    kind: Kind,
     ends: &[u16],
     starts: &[u16],
     entries: &[u16],
@@ -155,12 +155,20 @@ pub(crate) fn run(
     saturations: &mut [u16],
     waiting: &mut [u16],
 )
-    requires { ⌜ Passed (length (now colors)) (now ends) ⌝ }
-    requires { ⌜ Table (now ends) (length (now colors)) (now starts) (now entries) ⌝ }
-    requires { ⌜ (length (now colors) ≡ length (now presets)) × (now saturations ≡ replicate 512 0) × (length (now waiting) ≡ 512) ⌝ }
-    ensures { λ _. ⌜ now (colors .exit) ≡ saturationColors (neighbors (now (ends .entry)) (edgeCount (now (ends .entry)))) (length (now (colors .entry))) (now (presets .entry)) ⌝ }
+    requires { ⌜ Tabled kind (now ends) (now starts) (now entries) (length (now colors)) ⌝ }
+    requires { ⌜ (length (now colors) ≡ length (now presets)) × (now saturations ≡ replicate 4096 0) × (length (now waiting) ≡ 4096) ⌝ }
+    ensures { λ _. ⌜ now (colors .exit) ≡ saturationColors (neighborsOf kind (now (ends .entry))) (length (now (colors .entry))) (now (presets .entry)) ⌝ }
 {
-    start(starts, entries, colors, waiting);
-    set_presets(ends, starts, entries, presets, colors, saturations, waiting);
-    take_turns(ends, starts, entries, colors, saturations, waiting);
+    start(kind, ends, starts, entries, colors, waiting);
+    set_presets(
+        kind,
+        ends,
+        starts,
+        entries,
+        presets,
+        colors,
+        saturations,
+        waiting,
+    );
+    take_turns(kind, ends, starts, entries, colors, saturations, waiting);
 }

@@ -16,6 +16,7 @@ pub use graph::far_end;
 pub use graph::incidence;
 pub use greedy::ColoringStrategy;
 pub use greedy_color::greedy_edge_color;
+pub use greedy_color::greedy_edge_color_with_coloring_strategy;
 pub use greedy_color::greedy_node_color;
 pub use greedy_color::greedy_node_color_with_coloring_strategy;
 pub use greedy_color::greedy_node_color_with_preset_colors;

@@ -14,7 +14,7 @@ color-checked-requires c κs =
     (p .0, (p .1, p .2))
 
 returns-2 : tie.Need-returns-2
-returns-2 c = nodes-yes saturationColors _ _ _ _ _ _ (c .before .before .before .before .before .before .before .before .before .check-nodes .ensures) (c .before .before .before .before .before .before .before .-graph .given .1) _ _ (c .before .before .before .before .color-checked .ensures) (c .days-of .ensures)
+returns-2 c = nodes-yes saturationColors _ _ _ _ _ _ (c .before .before .before .before .before .before .before .check-nodes .ensures) (c .before .before .before .before .before .-graph .given .1) _ _ (c .before .before .color-checked .ensures .1) (c .before .before .color-checked .ensures .0)
 
 pub color-nodes-spec : {M : Type 1} → statement M
 color-nodes-spec =
@@ -24,5 +24,5 @@ color-nodes-spec =
     returns
     (λ c. search needs)
     color-checked-requires
-    (λ c κs. search needs) (λ c. search needs)
+    (λ c. search needs)
     returns-2)

@@ -1,4 +1,4 @@
--- `is_listed` meets its contract: a listed node stands at its place.
+-- `is_listed` meets its contract: a listed item stands at its place.
 use native.Mathlib.Omega.{arith}
 use borrow.Author.Needs.{needs}
 use Rattle.independent_set.specs.Listing.{listed-there, not-listed}
@@ -6,7 +6,7 @@ use Rattle.independent_set.proofs.listing.is_listed.Statement.{statemen
 use Rattle.independent_set.proofs.listing.is_listed.Tie as tie
 
 cast-at : tie.Need-cast-at
-cast-at c = omega (arith, c .shared-slice-known .given (c .before .before .args .node .0))
+cast-at c = omega (arith, c .shared-slice-known .given (c .before .before .args .item .0))
 
 returns : tie.Need-returns
 returns c = search (needs, not-listed)

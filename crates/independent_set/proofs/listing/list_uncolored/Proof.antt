@@ -1,4 +1,4 @@
--- `list_uncolored` meets its contract. The invariant: the nodes passed that have no colour are listed.
+-- `list_uncolored` meets its contract. The invariant: the items passed that have no colour are listed.
 use Prim.Native.Nat.{_-_, _≤_}
 use mathlib.Core.Path.{_≡_}
 use native.Mathlib.Omega.{arith}

@@ -1,4 +1,4 @@
--- `put_off` meets its contract: the node is listed and moved, or nothing changes.
+-- `put_off` meets its contract: the item is listed and moved, or nothing changes.
 use native.Mathlib.Omega.{arith}
 use borrow.Author.Needs.{needs}
 use Rattle.independent_set.specs.Listing.{put-off-listed, put-off-other, put-off-place, put-off-room}

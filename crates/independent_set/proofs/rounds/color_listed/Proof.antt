@@ -1,30 +1,30 @@
 -- `color_listed` meets its contract. The invariant: the turns that are left lead to what the round leaves.
 use native.Mathlib.Omega.{arith}
 use borrow.Author.Needs.{needs}
-use Rattle.graph.specs.Edges.{edgeCount, neighbors}
 use Rattle.greedy.specs.IndependentSet.{colorListed}
+use Rattle.independent_set.specs.Items.{neighborsOf}
 use Rattle.independent_set.specs.Listing.{listsAt}
 use Rattle.independent_set.specs.Rounds.{Turning, front-below, front-placed, front-taken, turn-done, turn-less, turn-more, turn-start}
 use Rattle.independent_set.proofs.rounds.color_listed.Statement.{statement}
 use Rattle.independent_set.proofs.rounds.color_listed.Tie as tie
 
 abbrev Inv-loop : tie.InvT-loop
-Inv-loop n ends starts entries listed₀ place₀ next₀ colors₀ color reached₀ listed place next colors reached = Turning n (neighbors ends (edgeCount ends)) (color .0) listed place next (reached .listed) (reached .next) colors (colorListed (neighbors ends (edgeCount ends)) (color .0) (reached₀ .listed) (listsAt listed₀ next₀ (reached₀ .listed) (reached₀ .next)) colors₀)
+Inv-loop items ends starts entries listed₀ place₀ next₀ colors₀ color reached₀ listed place next colors reached = Turning (items .count) (neighborsOf items ends) (color .0) listed place next (reached .listed) (reached .next) colors (colorListed (neighborsOf items ends) (color .0) (reached₀ .listed) (listsAt listed₀ next₀ (reached₀ .listed) (reached₀ .next)) colors₀)
 
 abbrev μ-loop : tie.MeasureT-loop
-μ-loop n ends starts entries listed₀ place₀ next₀ colors₀ color reached₀ listed place next colors reached = reached .listed
+μ-loop items ends starts entries listed₀ place₀ next₀ colors₀ color reached₀ listed place next colors reached = reached .listed
 
 loop-holds : tie.Need-loop-holds Inv-loop μ-loop
-loop-holds c = turn-start _ _ _ _ _ _ _ _ _ (c .before .before .before .before .before .before .before .pre .1 .1 .0) (c .before .before .before .before .before .before .before .pre .1 .1 .1)
+loop-holds c = turn-start _ _ _ _ _ _ _ _ _ (c .before .before .before .before .before .before .before .pre .1 .0) (c .before .before .before .before .before .before .before .pre .1 .1)
 
 slice-read-t18 : tie.Need-slice-read-t18 Inv-loop μ-loop
 slice-read-t18 c = omega (arith, c .before .before .before .loop .inv .held .first .size)
 
 cast-v : tie.Need-cast-v Inv-loop μ-loop
-cast-v c = omega (arith, front-below _ _ _ _ _ _ _ _ _ _ (c .before .before .before .before .loop .inv) (c .before .before .if1 .taken), c .before .before .before .before .before .before .before .before .before .before .before .before .pre .0 .nodes)
+cast-v c = omega (arith, front-below _ _ _ _ _ _ _ _ _ _ (c .before .before .before .before .loop .inv) (c .before .before .if1 .taken), c .before .before .before .before .loop .inv .held .first .few)
 
 mul-colors : tie.Need-mul-colors Inv-loop μ-loop
-mul-colors c = omega (arith, front-below _ _ _ _ _ _ _ _ _ _ (c .before .before .before .before .loop .inv) (c .before .before .if1 .taken), c .before .before .before .before .before .before .before .before .before .before .before .before .pre .0 .nodes)
+mul-colors c = omega (arith, front-below _ _ _ _ _ _ _ _ _ _ (c .before .before .before .before .loop .inv) (c .before .before .if1 .taken), c .before .before .before .before .loop .inv .held .first .few)
 
 slice-write-colors : tie.Need-slice-write-colors Inv-loop μ-loop
 slice-write-colors c = omega (arith, front-below _ _ _ _ _ _ _ _ _ _ (c .before .before .before .before .loop .inv) (c .before .before .if1 .taken), c .before .before .before .before .loop .inv .size)
@@ -33,7 +33,7 @@ take-out-requires : tie.Need-take-out-requires Inv-loop μ-loop
 take-out-requires c κs = (c .before .before .before .before .before .before .loop .inv .held .first, (front-below _ _ _ _ _ _ _ _ _ _ (c .before .before .before .before .before .before .loop .inv) (c .before .before .before .before .if1 .taken), front-placed _ _ _ _ _ _ _ _ _ _ (c .before .before .before .before .before .before .loop .inv) (c .before .before .before .before .if1 .taken)))
 
 put-off-neighbors-requires : tie.Need-put-off-neighbors-requires Inv-loop μ-loop
-put-off-neighbors-requires c κs = (c .before .before .before .before .before .before .before .before .before .before .before .before .before .before .before .before .before .before .before .before .before .before .pre .0, (c .before .before .before .before .before .before .before .before .before .before .before .before .before .before .before .before .before .before .before .before .before .before .pre .1 .0, (front-taken _ _ _ _ _ _ _ _ _ _ (c .before .before .before .before .before .before .before .before .before .before .before .before .before .before .loop .inv) (c .before .before .before .before .before .before .before .before .before .before .before .before .if1 .taken) _ _ (c .before .before .before .before .before .before .before .take-out .ensures .0) (c .before .before .before .before .before .before .before .take-out .ensures .1), front-below _ _ _ _ _ _ _ _ _ _ (c .before .before .before .before .before .before .before .before .before .before .before .before .before .before .loop .inv) (c .before .before .before .before .before .before .before .before .before .before .before .before .if1 .taken))))
+put-off-neighbors-requires c κs = (c .before .before .before .before .before .before .before .before .before .before .before .before .before .before .before .before .before .before .before .before .before .before .pre .0, (front-taken _ _ _ _ _ _ _ _ _ _ (c .before .before .before .before .before .before .before .before .before .before .before .before .before .before .loop .inv) (c .before .before .before .before .before .before .before .before .before .before .before .before .if1 .taken) _ _ (c .before .before .before .before .before .before .before .take-out .ensures .0) (c .before .before .before .before .before .before .before .take-out .ensures .1), front-below _ _ _ _ _ _ _ _ _ _ (c .before .before .before .before .before .before .before .before .before .before .before .before .before .before .loop .inv) (c .before .before .before .before .before .before .before .before .before .before .before .before .if1 .taken)))
 
 loop-less : tie.Need-loop-less Inv-loop μ-loop
 loop-less c = turn-less _ _ _ _ _ _ _ _ _ _ (c .before .before .before .before .before .before .before .before .before .before .before .before .before .before .before .before .before .before .before .before .before .loop .inv) (c .before .before .before .before .before .before .before .before .before .before .before .before .before .before .before .before .before .before .before .if1 .taken) _ _ (c .before .before .before .before .before .before .before .before .before .before .before .before .before .before .take-out .ensures .0) (c .before .before .before .before .before .before .before .before .before .before .before .before .before .before .take-out .ensures .1) _ _ _ _ _ (c .before .before .before .before .before .before .put-off-neighbors .ensures)

@@ -1,45 +1,28 @@
--- `put_off_neighbors` meets its contract. The invariant: the far ends of the edges passed are put off.
-use Prim.Native.Nat.{_-_, _≤_, ℕ}
-use mathlib.Core.List.{map}
-use native.Mathlib.Omega.{arith}
-use lib.ListN.{length, take}
+-- `put_off_neighbors` meets its contract, for each kind of items.
 use borrow.Author.Needs.{needs}
-use Rattle.graph.specs.Edges.{farEnd}
-use Rattle.greedy.specs.IndependentSet.{putOffAll}
-use Rattle.independent_set.specs.Listing.{Held, listsAt}
-use Rattle.independent_set.specs.Rounds.{held-at, neighbor-below, neighbors-done, neighbors-more, neighbors-none}
+use Rattle.independent_set.specs.Items.{edges-asked, edges-left, nodes-asked, nodes-left}
 use Rattle.independent_set.proofs.rounds.put_off_neighbors.Statement.{statement}
 use Rattle.independent_set.proofs.rounds.put_off_neighbors.Tie as tie
 
-abbrev Inv-loop : tie.InvT-loop
-Inv-loop n ends starts entries listed₀ place₀ next₀ node edges reached₀ i₀ listed place next reached i = (i ≤ length edges) × Held n listed place next (reached .listed) (reached .next) (putOffAll (listsAt listed₀ next₀ (reached₀ .listed) (reached₀ .next)) (map (λ (j : ℕ). farEnd ends j (node .0)) (take i edges)))
+put-off-sharing-requires : tie.Need-put-off-sharing-requires
+put-off-sharing-requires c κs = (c .before .before .before .before .before .before .before .before .before .before .pre .0 .passed, (c .before .before .before .before .before .before .before .before .before .before .pre .0 .table, edges-asked _ _ _ _ (c .before .before .before .before .before .before .before .before .before .before .pre .0) _ _ _ _ _ _ _ (c .before .before .before .if1 .taken) (c .before .before .before .before .before .before .before .before .before .before .pre .1 .0) (c .before .before .before .before .before .before .before .before .before .before .pre .1 .1)))
 
-abbrev μ-loop : tie.MeasureT-loop
-μ-loop n ends starts entries listed₀ place₀ next₀ node edges reached₀ i₀ listed place next reached i = length edges - i
+returns : tie.Need-returns
+returns c = edges-left _ _ _ _ (c .before .before .before .before .before .before .before .before .before .before .before .before .before .before .before .before .before .pre .0) _ _ _ _ _ _ _ (c .before .before .before .before .before .before .before .before .before .before .if1 .taken) (c .before .before .before .before .before .before .put-off-sharing .ensures)
 
-loop-holds : tie.Need-loop-holds Inv-loop μ-loop
-loop-holds c = search (needs, neighbors-none)
+put-off-far-ends-requires : tie.Need-put-off-far-ends-requires
+put-off-far-ends-requires c κs = (c .before .before .before .before .before .before .before .before .before .before .pre .0 .passed, (c .before .before .before .before .before .before .before .before .before .before .pre .0 .table, nodes-asked _ _ _ _ (c .before .before .before .before .before .before .before .before .before .before .pre .0) _ _ _ _ _ _ _ (c .before .before .before .if1 .left) (c .before .before .before .before .before .before .before .before .before .before .pre .1 .0) (c .before .before .before .before .before .before .before .before .before .before .pre .1 .1)))
 
-put-off-requires : tie.Need-put-off-requires Inv-loop μ-loop
-put-off-requires c κs = (held-at _ _ _ _ _ _ _ (c .before .before .before .before .before .before .loop .inv .1), neighbor-below _ _ _ _ _ _ (c .before .before .before .before .before .before .before .before .before .before .before .before .before .before .pre .0) (c .before .before .before .before .before .before .before .before .before .before .before .before .before .before .pre .1 .0) (c .before .before .before .before .before .before .before .before .before .before .before .before .before .before .pre .1 .1 .1) (c .before .before .before .before .before .before .before .edges-at .ensures .0) _ _ (c .before .before .before .before .before .loop-test .taken) (c .before .before .before .far-end .ensures))
-
-loop-again : tie.Need-loop-again Inv-loop μ-loop
-loop-again c = (omega arith, neighbors-more _ _ _ _ _ _ _ _ _ _ _ _ _ _ _ _ _ (c .before .before .before .before .before .before .before .before .before .before .before .before .before .loop .inv .1) (c .before .before .before .before .before .before .before .before .before .before .before .before .loop-test .taken) (c .before .before .before .before .before .before .before .before .before .before .far-end .ensures) (c .before .before .before .before .before .before .put-off .ensures))
-
-returns : tie.Need-returns Inv-loop μ-loop
-returns c = neighbors-done _ _ _ _ _ _ (c .before .before .before .before .before .before .before .before .before .pre .0) (c .before .before .before .before .before .before .before .before .before .pre .1 .0) (c .before .before .before .before .before .before .before .before .before .pre .1 .1 .1) (c .before .before .edges-at .ensures .0) _ _ _ _ _ _ _ (c .loop-test .left) (c .before .loop .inv .1)
+returns-2 : tie.Need-returns-2
+returns-2 c = nodes-left _ _ _ _ (c .before .before .before .before .before .before .before .before .before .before .before .before .before .before .before .before .before .pre .0) _ _ _ _ _ _ _ (c .before .before .before .before .before .before .before .before .before .before .if1 .left) (c .before .before .before .before .before .before .put-off-far-ends .ensures)
 
 pub put-off-neighbors-spec : {M : Type 1} → statement M
 put-off-neighbors-spec =
     tie.close
     (tie.spec
-    Inv-loop
-    μ-loop
-    (λ c κs. search needs)
-    loop-holds
-    (λ c. search needs) (λ c. search needs) (λ c κs. search needs)
-    put-off-requires
-    (λ c. search needs) (λ c. search needs)
-    loop-again
+    put-off-sharing-requires
     (λ c. search needs) (λ c. search needs) (λ c. search needs)
-    returns)
+    returns
+    put-off-far-ends-requires
+    (λ c. search needs) (λ c. search needs) (λ c. search needs)
+    returns-2)

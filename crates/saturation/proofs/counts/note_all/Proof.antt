@@ -1,32 +1,32 @@
--- `note_all` meets its contract. The invariant: the far ends of the edges passed have noted the colour.
+-- `note_all` meets its contract. The invariant: the items along the edges passed have noted the colour.
 use Prim.Native.Nat.{_≤_, _-_}
 use mathlib.Core.Path.{_≡_}
 use native.Mathlib.Omega.{arith}
 use lib.ListN.{length, take}
 use borrow.Author.Needs.{needs}
-use Rattle.saturation.specs.Notes.{Noted, farEnds, notes-none, notes-room, notes-more, notes-all}
+use Rattle.saturation.specs.Notes.{Noted, acrossAll, notes-none, notes-room, notes-more, notes-all}
 use Rattle.saturation.proofs.counts.note_all.Statement.{statement}
 use Rattle.saturation.proofs.counts.note_all.Tie as tie
 
 abbrev Inv-loop : tie.InvT-loop
-Inv-loop ends edges colors saturations₀ waiting₀ marks₀ node i₀ saturations waiting marks i = (i ≤ length edges) × (length saturations ≡ length saturations₀) × (length waiting ≡ length waiting₀) × (length marks ≡ length marks₀) × Noted colors (farEnds ends (node .0) (take i edges)) saturations₀ waiting₀ marks₀ saturations waiting marks
+Inv-loop kind ends edges colors saturations₀ waiting₀ marks₀ node i₀ saturations waiting marks i = (i ≤ length edges) × (length saturations ≡ length saturations₀) × (length waiting ≡ length waiting₀) × (length marks ≡ length marks₀) × Noted colors (acrossAll kind ends (node .0) (take i edges)) saturations₀ waiting₀ marks₀ saturations waiting marks
 
 abbrev μ-loop : tie.MeasureT-loop
-μ-loop ends edges colors saturations₀ waiting₀ marks₀ node i₀ saturations waiting marks i = length edges - i
+μ-loop kind ends edges colors saturations₀ waiting₀ marks₀ node i₀ saturations waiting marks i = length edges - i
 
 loop-holds : tie.Need-loop-holds Inv-loop μ-loop
 loop-holds c = search (needs, notes-none)
 
 note-requires : tie.Need-note-requires Inv-loop μ-loop
 note-requires c κs =
-    let e = c .before .before .before .far-end .ensures in
+    let e = c .before .before .before .across .ensures in
     let b = c .before .before .before .before .before .before .before .before .before .before .before .before .before .pre .0 (c .before .before .before .before .before .before .loop .i) (c .before .before .before .before .before .loop-test .taken) in
     let room = c .before .before .before .before .before .before .before .before .before .before .before .before .before .pre .1 .1 in
     let i = c .before .before .before .before .before .before .loop .inv in
-    ((omega (arith, e, b), omega (arith, e, b, room .0, i .1), omega (arith, e, b, room .1, i .2), omega (arith, e, b, room .2, i .3)), λ z. notes-room _ _ _ _ _ _ _ _ _ _ _ (c .before .before .before .before .before .before .before .before .before .before .before .before .before .pre .1 .0) (i .4) (c .before .before .before .before .before .loop-test .taken) _ e (omega (arith, e, b)) z)
+    ((omega (arith, e, b), omega (arith, e, b, room .0, i .1), omega (arith, e, b, room .1, i .2), omega (arith, e, b, room .2, i .3)), λ z. notes-room _ _ _ _ _ _ _ _ _ _ _ _ (c .before .before .before .before .before .before .before .before .before .before .before .before .before .pre .1 .0) (i .4) (c .before .before .before .before .before .loop-test .taken) _ e (omega (arith, e, b)) z)
 
 loop-again : tie.Need-loop-again Inv-loop μ-loop
-loop-again c = (search needs, search needs, search needs, search needs, notes-more _ _ _ _ _ _ _ _ _ _ _ _ _ _ (c .before .before .before .before .before .before .before .before .before .before .before .before .before .loop .inv .4) (c .before .before .before .before .before .before .before .before .before .before .before .before .loop-test .taken) _ (c .before .before .before .before .before .before .before .before .before .before .far-end .ensures) (c .before .before .before .before .before .before .note .ensures))
+loop-again c = (search needs, search needs, search needs, search needs, notes-more _ _ _ _ _ _ _ _ _ _ _ _ _ _ _ (c .before .before .before .before .before .before .before .before .before .before .before .before .before .loop .inv .4) (c .before .before .before .before .before .before .before .before .before .before .before .before .loop-test .taken) _ (c .before .before .before .before .before .before .before .before .before .before .across .ensures) (c .before .before .before .before .before .before .note .ensures))
 
 returns : tie.Need-returns Inv-loop μ-loop
 returns c = search (needs, notes-all)

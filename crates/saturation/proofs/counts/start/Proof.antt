@@ -1,33 +1,40 @@
--- `start` meets its contract. The invariant: the nodes passed have no colour and wait for all their neighbours.
+-- `start` meets its contract. The invariant: the items passed have no colour and wait for all their neighbours.
 use Prim.Native.Nat.{_≤_, _-_}
-use mathlib.Core.Path.{refl, ap, _≡_}
+use mathlib.Core.Path.{_≡_}
 use native.Mathlib.Omega.{arith}
 use lib.ListN.{length}
 use borrow.Author.Needs.{needs}
-use Rattle.saturation.specs.Start.{started-all, Started, started-none, started-more}
+use Rattle.saturation.specs.Start.{Started, started-none, started-more, started-all, neighbors-few}
+use Rattle.saturation.specs.Items.{neighborsOf, items-few}
 use Rattle.saturation.proofs.counts.start.Statement.{statement}
 use Rattle.saturation.proofs.counts.start.Tie as tie
 
 abbrev Inv-loop : tie.InvT-loop
-Inv-loop starts entries colors₀ waiting₀ v₀ colors waiting v = (v ≤ length colors₀) × (length colors ≡ length colors₀) × (length waiting ≡ length waiting₀) × Started starts entries v colors waiting
+Inv-loop kind ends starts entries colors₀ waiting₀ v₀ colors waiting v = (v ≤ length colors₀) × (length colors ≡ length colors₀) × (length waiting ≡ length waiting₀) × Started (neighborsOf kind ends) v colors waiting
 
 abbrev μ-loop : tie.MeasureT-loop
-μ-loop starts entries colors₀ waiting₀ v₀ colors waiting v = length colors₀ - v
+μ-loop kind ends starts entries colors₀ waiting₀ v₀ colors waiting v = length colors₀ - v
 
 loop-holds : tie.Need-loop-holds Inv-loop μ-loop
 loop-holds c = search (needs, started-none)
 
+cast-waiting : tie.Need-cast-waiting Inv-loop μ-loop
+cast-waiting c = omega (arith, c .loop-test .taken, c .before .loop .inv .1, items-few _ _ _ (c .before .before .before .before .before .before .before .pre .0 .sized))
+
+neighbor-count-requires : tie.Need-neighbor-count-requires Inv-loop μ-loop
+neighbor-count-requires c κs = record { items = _; tabled = c .before .before .before .before .before .before .before .pre .0; inside = omega (arith, c .loop-test .taken, c .before .loop .inv .1) }
+
 cast-waiting-2 : tie.Need-cast-waiting-2 Inv-loop μ-loop
-cast-waiting-2 c = omega (arith, ap length (c .edges-at .ensures .0), c .before .before .before .before .before .before .before .pre .1 (c .before .before .loop .v) (omega (arith, c .before .loop-test .taken, c .before .before .loop .inv .1)))
+cast-waiting-2 c = omega (arith, neighbors-few _ _ _ _ _ (c .before .before .before .before .before .before .before .before .pre .0) _ _ (omega (arith, c .before .loop-test .taken, c .before .before .loop .inv .1)) (c .neighbor-count .ensures))
 
 loop-less : tie.Need-loop-less Inv-loop μ-loop
 loop-less c = omega (arith, c .before .loop-test .taken, c .before .before .loop .inv .1)
 
 loop-again : tie.Need-loop-again Inv-loop μ-loop
-loop-again c = (omega (arith, c .before .loop-test .taken, c .before .before .loop .inv .1), search needs, search needs, started-more _ _ _ _ _ _ _ (c .before .before .loop .inv .3) (c .before .loop-test .taken) (omega (arith, c .before .loop-test .taken, c .before .before .loop .inv .1, c .before .before .loop .inv .2, c .before .before .before .before .before .before .before .pre .0 .1)) (c .edges-at .ensures .0) refl)
+loop-again c = (omega (arith, c .before .loop-test .taken, c .before .before .loop .inv .1), search needs, search needs, started-more _ _ _ _ _ (c .before .before .loop .inv .3) (c .before .loop-test .taken) (omega (arith, c .before .loop-test .taken, c .before .before .loop .inv .1, c .before .before .loop .inv .2, c .before .before .before .before .before .before .before .before .pre .1)) (c .neighbor-count .ensures))
 
 returns : tie.Need-returns Inv-loop μ-loop
-returns c = started-all _ _ _ _ _ _ (c .before .loop .inv .3) (c .before .loop .inv .0) (omega (arith, c .loop-test .left, c .before .loop .inv .1))
+returns c = started-all _ _ _ _ _ (c .before .loop .inv .3) (c .before .loop .inv .0) (omega (arith, c .loop-test .left, c .before .loop .inv .1))
 
 pub start-spec : {M : Type 1} → statement M
 start-spec =
@@ -36,7 +43,9 @@ start-spec =
     Inv-loop
     μ-loop
     loop-holds
-    (λ c. search needs) (λ c κs. search needs) (λ c. search needs) (λ c. search needs)
+    cast-waiting
+    neighbor-count-requires
+    (λ c. search needs) (λ c. search needs)
     cast-waiting-2
     (λ c. search needs) (λ c. search needs) (λ c. search needs)
     loop-less

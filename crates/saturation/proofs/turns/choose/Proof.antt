@@ -1,9 +1,9 @@
--- `choose` meets its contract. The invariant: the best so far leads the nodes passed that have no colour.
+-- `choose` meets its contract. The invariant: the best so far leads the items passed that have no colour.
 use Prim.Native.Nat.{_≤_, _-_}
 use native.Mathlib.Omega.{arith}
 use lib.ListN.{length}
 use borrow.Author.Needs.{needs}
-use Rattle.saturation.specs.Choice.{chosen-nothing, chosen-node, Scanned, scan-none, scan-first, scan-greater, scan-same, scan-colored}
+use Rattle.saturation.specs.Choice.{chosen-nothing, chosen-next, Scanned, scan-none, scan-first, scan-greater, scan-same, scan-colored}
 use Rattle.saturation.proofs.turns.choose.Statement.{statement}
 use Rattle.saturation.proofs.turns.choose.Tie as tie
 
@@ -17,22 +17,22 @@ loop-holds : tie.Need-loop-holds Inv-loop μ-loop
 loop-holds c = search (needs, scan-none)
 
 loop-again : tie.Need-loop-again Inv-loop μ-loop
-loop-again c = (omega (arith, c .before .before .before .loop-test .taken), omega (arith, c .before .before .before .loop-test .taken), scan-first _ _ _ _ _ (c .before .before .before .before .loop .inv .2) (c .before .before .before .loop-test .taken) (c .before .if1 .taken) (c .if2 .taken))
+loop-again c = search (needs, scan-first)
 
 loop-again-2 : tie.Need-loop-again-2 Inv-loop μ-loop
-loop-again-2 c = (omega (arith, c .before .before .before .before .before .loop-test .taken), omega (arith, c .before .before .before .before .before .loop-test .taken), scan-greater _ _ _ _ _ (c .before .before .before .before .before .before .loop .inv .2) (c .before .before .before .before .before .loop-test .taken) (c .before .before .before .if1 .taken) (c .before .before .if2 .left) _ (c .before .goes-before .ensures) (c .if3 .taken))
+loop-again-2 c = search (needs, scan-greater)
 
 loop-again-3 : tie.Need-loop-again-3 Inv-loop μ-loop
-loop-again-3 c = (omega (arith, c .before .before .before .before .before .loop-test .taken), c .before .before .before .before .before .before .loop .inv .1, scan-same _ _ _ _ _ (c .before .before .before .before .before .before .loop .inv .2) (c .before .before .before .before .before .loop-test .taken) (c .before .before .before .if1 .taken) (c .before .before .if2 .left) _ (c .before .goes-before .ensures) (c .if3 .left))
+loop-again-3 c = search (needs, scan-same)
 
 loop-again-4 : tie.Need-loop-again-4 Inv-loop μ-loop
-loop-again-4 c = (omega (arith, c .before .before .loop-test .taken), c .before .before .before .loop .inv .1, scan-colored _ _ _ _ _ (c .before .before .before .loop .inv .2) (c .before .before .loop-test .taken) (c .if1 .left))
+loop-again-4 c = search (needs, scan-colored)
 
 returns : tie.Need-returns Inv-loop μ-loop
 returns c = chosen-nothing _ _ _ _ _ (c .before .before .loop .inv .2) (omega (arith, c .before .before .loop .inv .0, c .before .loop-test .left)) (c .if4 .taken)
 
 returns-2 : tie.Need-returns-2 Inv-loop μ-loop
-returns-2 c = chosen-node _ _ _ _ _ (c .before .before .loop .inv .2) (omega (arith, c .before .before .loop .inv .0, c .before .loop-test .left)) (c .if4 .left)
+returns-2 c = chosen-next _ _ _ _ _ (c .before .before .loop .inv .2) (omega (arith, c .before .before .loop .inv .0, c .before .loop-test .left)) (c .if4 .left)
 
 pub choose-spec : {M : Type 1} → statement M
 choose-spec =

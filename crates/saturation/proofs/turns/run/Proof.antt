@@ -1,29 +1,29 @@
--- `run` meets its contract: the start makes the counts ready, and the turns begin with the presets.
 use mathlib.Core.Path.{sym, ap, _∙_}
 use native.Mathlib.Omega.{arith}
 use lib.ListN.{length}
 use borrow.Author.Needs.{needs}
-use Rattle.saturation.specs.Start.{stretch-few, started-ready, preset-none}
+use Rattle.saturation.specs.Items.{items-few}
+use Rattle.saturation.specs.Start.{started-ready, preset-none}
 use Rattle.saturation.specs.Turns.{from-presets}
 use Rattle.saturation.proofs.turns.run.Statement.{statement}
 use Rattle.saturation.proofs.turns.run.Tie as tie
 
+-- `run` meets its contract: the start makes the counts ready, and the turns begin with the presets.
+
 start-requires : tie.Need-start-requires
-start-requires c κs =
-    let p = c .before .before .before .before .before .before .before .before .before .pre in
-    ((p .0 .nodes, omega (arith, p .0 .nodes, p .1 .1 .2)), stretch-few _ _ _ _ (p .0) (p .1 .0))
+start-requires c κs = let p = c .before .before .before .before .before .before .before .before .before .pre in (p .0, omega (arith, items-few _ _ _ (p .0 .sized), p .1 .2))
 
 set-presets-requires : tie.Need-set-presets-requires
 set-presets-requires c κs =
     let p = c .before .before .before .before .before .before .before .before .before .before .before .before .before .before .before .before .before .pre in
     let k = c .before .before .before .before .before .before .before .start .kept in
     let s = c .before .before .before .before .before .before .before .start .ensures in
-    (started-ready _ _ _ (c .before .before .before .before .before .before .before .before .before .before .before .before .before .before .before .before .before .args .colors .now) _ _ _ (p .0) (p .1 .0) (k .1 .1 .0) (p .1 .1 .1) (k .1 .1 .1 .0 ∙ p .1 .1 .2) s, (k .1 .1 .0 ∙ p .1 .1 .0, preset-none _ _ _ _ _ _ (k .1 .1 .0) s))
+    (started-ready _ _ _ _ _ _ _ _ (p .0) (k .1 .1 .1 .1 .0) (p .1 .1) (k .1 .1 .1 .1 .1 .0 ∙ p .1 .2) s, (k .1 .1 .1 .1 .0 ∙ p .1 .0, preset-none _ _ _ _ _ (k .1 .1 .1 .1 .0) s))
 
 returns : tie.Need-returns
 returns c =
     let e = c .before .before .before .before .before .before .before .before .before .before .before .before .before .before .before .before .set-presets .ensures .0 in
-    from-presets _ _ _ _ _ _ (c .before .before .before .before .before .before .take-turns .ensures) e (ap length e ∙ sym (c .before .before .before .before .before .before .before .before .before .before .before .before .before .before .before .before .before .before .before .before .before .before .before .before .before .before .before .before .before .before .before .before .before .before .pre .1 .1 .0))
+    from-presets _ _ _ _ _ _ (c .before .before .before .before .before .before .take-turns .ensures) e (ap length e ∙ sym (c .before .before .before .before .before .before .before .before .before .before .before .before .before .before .before .before .before .before .before .before .before .before .before .before .before .before .before .before .before .before .before .before .before .before .pre .1 .0))
 
 pub run-spec : {M : Type 1} → statement M
 run-spec =

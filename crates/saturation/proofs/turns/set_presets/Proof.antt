@@ -1,22 +1,23 @@
--- `set_presets` meets its contract. The invariant: the nodes passed have their presets, the others no colour.
+-- `set_presets` meets its contract. The invariant: the items passed have their presets, the others no colour.
 use Prim.Native.Nat.{_≤_, _-_}
 use mathlib.Core.Path.{refl, _∙_, _≡_}
 use native.Mathlib.Omega.{arith}
 use lib.ListN.{length}
 use borrow.Author.Needs.{needs}
+use Rattle.saturation.specs.Items.{items-few}
 use Rattle.saturation.specs.Start.{Preset, preset-more, preset-all}
 use Rattle.saturation.specs.Taken.{Ready}
 use Rattle.saturation.proofs.turns.set_presets.Statement.{statement}
 use Rattle.saturation.proofs.turns.set_presets.Tie as tie
 
 abbrev Inv-loop : tie.InvT-loop
-Inv-loop ends starts entries presets colors₀ saturations₀ waiting₀ v₀ colors saturations waiting v = (v ≤ length presets) × (length colors ≡ length colors₀) × (length saturations ≡ length saturations₀) × (length waiting ≡ length waiting₀) × Ready ends starts entries colors saturations waiting × Preset presets v colors
+Inv-loop kind ends starts entries presets colors₀ saturations₀ waiting₀ v₀ colors saturations waiting v = (v ≤ length presets) × (length colors ≡ length colors₀) × (length saturations ≡ length saturations₀) × (length waiting ≡ length waiting₀) × Ready kind ends starts entries colors saturations waiting × Preset presets v colors
 
 abbrev μ-loop : tie.MeasureT-loop
-μ-loop ends starts entries presets colors₀ saturations₀ waiting₀ v₀ colors saturations waiting v = length presets - v
+μ-loop kind ends starts entries presets colors₀ saturations₀ waiting₀ v₀ colors saturations waiting v = length presets - v
 
-cast-t18 : tie.Need-cast-t18 Inv-loop μ-loop
-cast-t18 c = omega (arith, c .before .before .before .loop-test .taken, c .before .before .before .before .before .before .before .before .before .before .before .before .pre .1 .0, c .before .before .before .before .loop .inv .1, c .before .before .before .before .loop .inv .4 .passed .nodes)
+cast-t19 : tie.Need-cast-t19 Inv-loop μ-loop
+cast-t19 c = omega (arith, c .before .before .before .loop-test .taken, c .before .before .before .before .before .before .before .before .before .before .before .before .pre .1 .0, c .before .before .before .before .loop .inv .1, items-few _ _ _ (c .before .before .before .before .loop .inv .4 .tabled .sized))
 
 take-color-requires : tie.Need-take-color-requires Inv-loop μ-loop
 take-color-requires c κs =
@@ -41,7 +42,7 @@ set-presets-spec =
     Inv-loop
     μ-loop
     (λ c. search needs)
-    cast-t18
+    cast-t19
     (λ c. search needs) (λ c. search needs)
     take-color-requires
     (λ c. search needs) (λ c. search needs)

@@ -1,13 +1,21 @@
--- `turn` meets its contract: the chosen node takes the smallest free colour.
+-- `turn` meets its contract: the chosen item takes the smallest free colour.
 use borrow.Author.Needs.{needs}
-use Rattle.greedy.specs.Marks.{smallest-color-node}
+use Rattle.saturation.specs.Items.{items-few}
 use Rattle.saturation.specs.Turns.{turn-none, turn-chosen}
 use Rattle.saturation.proofs.turns.turn.Statement.{statement}
 use Rattle.saturation.proofs.turns.turn.Tie as tie
 
+choose-requires : tie.Need-choose-requires
+choose-requires c κs = let p = c .before .before .before .before .before .before .before .before .before .pre in (items-few _ _ _ (p .tabled .sized), p .saturations-room, p .waiting-room)
+
+free-color-requires : tie.Need-free-color-requires
+free-color-requires c κs =
+    let l = c .before .before .before .before .choose .ensures .next _ (c .before .before .item .given .1) in
+    (c .before .before .before .before .before .before .before .before .before .before .before .before .before .before .pre .tabled, (l .inside, l .bare))
+
 take-color-requires : tie.Need-take-color-requires
 take-color-requires c κs =
-    let l = c .before .before .before .before .before .before .before .before .choose .ensures .node _ (c .before .before .before .before .before .before .node .given .1) in
+    let l = c .before .before .before .before .before .before .before .before .choose .ensures .next _ (c .before .before .before .before .before .before .item .given .1) in
     (c .before .before .before .before .before .before .before .before .before .before .before .before .before .before .before .before .before .before .pre, (l .inside, l .bare))
 
 returns : tie.Need-returns
@@ -16,15 +24,17 @@ returns c = (turn-none _ _ _ (c .before .before .choose .ensures .nothing (c .en
 returns-2 : tie.Need-returns-2
 returns-2 c =
     let p = c .before .before .before .before .before .before .before .before .before .before .before .before .before .before .before .before .before .before .before .before .before .before .before .before .before .pre in
-    let l = c .before .before .before .before .before .before .before .before .before .before .before .before .before .before .before .choose .ensures .node _ (c .before .before .before .before .before .before .before .before .before .before .before .before .before .node .given .1) in
+    let l = c .before .before .before .before .before .before .before .before .before .before .before .before .before .before .before .choose .ensures .next _ (c .before .before .before .before .before .before .before .before .before .before .before .before .before .item .given .1) in
     let e = c .before .before .before .before .before .before .take-color .ensures in
-    (turn-chosen _ _ _ _ _ _ _ _ (p .counted) l (smallest-color-node _ _ _ _ _ _ _ (p .passed) (p .table) (l .inside) (c .before .before .before .before .before .before .before .before .before .before .smallest-color .ensures)) (e .0), e .1)
+    (turn-chosen _ _ _ _ _ _ _ _ (p .counted) l (c .before .before .before .before .before .before .before .before .before .before .free-color .ensures) (e .0), e .1)
 
 pub turn-spec : {M : Type 1} → statement M
 turn-spec =
     tie.close
     (tie.spec
-    (λ c κs. search needs) (λ c. search needs) (λ c. search needs) (λ c κs. search needs)
+    choose-requires
+    (λ c. search needs) (λ c. search needs)
+    free-color-requires
     take-color-requires
     (λ c. search needs) (λ c. search needs) (λ c. search needs)
     returns

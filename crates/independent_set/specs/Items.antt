@@ -1,0 +1,59 @@
+-- The items of a graph, nodes or edges: their neighbours, their number, and what is known of the table.
+use Prim.Native.Nat.{ℕ, _≤_, _<_}
+use mathlib.Core.Bool.{true, false, cond}
+use mathlib.Core.List.{List}
+use mathlib.Core.Path.{_≡_}
+use native.Mathlib.Omega.{arith}
+use Rattle.lists.specs.Tests.{by-test}
+use Rattle.graph.specs.CheckLaws.{Passed}
+use Rattle.graph.specs.Edges.{edgeCount, neighbors}
+use Rattle.graph.specs.StretchLaws.{Table}
+use Rattle.greedy.specs.Call.{edgeNeighbors}
+use Rattle.greedy.specs.IndependentSet.{Lists, putOffAll}
+use Rattle.independent_set.specs.declared.items.Items.{Items}
+use Rattle.independent_set.specs.Listing.{Held}
+
+-- The neighbours of each item, in incidence order.
+unfoldable pub neighborsOf : Items → List ℕ → ℕ → List ℕ
+neighborsOf items ends = cond (items .edges) (edgeNeighbors (items .nodes) ends) (neighbors ends (edgeCount ends))
+
+-- How many items there are.
+unfoldable pub countOf : Items → List ℕ → ℕ
+countOf items ends = cond (items .edges) (edgeCount ends) (items .nodes)
+
+-- The items are those of a graph that passed the checks, and its table is made.
+pub record Tabled (items : Items) (ends starts entries : List ℕ) : Type 0 where
+  pub passed : Passed (items .nodes) ends
+  pub table : Table ends (items .nodes) starts entries
+  pub all : items .count ≡ countOf items ends
+
+pub items-few : (items : Items) (ends : List ℕ) → Passed (items .nodes) ends → items .count ≡ countOf items ends → items .count ≤ 4096
+unfolding countOf
+items-few items ends p e = by-test (items .edges) (λ t. omega (arith, rw t at e, p .edges)) (λ t. omega (arith, rw t at e, p .nodes))
+
+-- ---- by kind: what a walk over the neighbours asks for, and what it leaves
+
+module _ (items : Items) (ends starts entries : List ℕ) (known : Tabled items ends starts entries) (s : Lists) (listed place next : List ℕ) (len end v : ℕ) where
+  module _ (e : items .edges ≡ true) where
+    edges-all : items .count ≡ edgeCount ends
+    unfolding countOf
+    edges-all = rw e at (known .all)
+
+    pub edges-asked : Held (items .count) listed place next len end s → v < items .count → Held (edgeCount ends) listed place next len end s × (v < edgeCount ends)
+    edges-asked h l = rw (← edges-all) (h, l)
+
+    pub edges-left : Held (edgeCount ends) listed place next len end (putOffAll s (edgeNeighbors (items .nodes) ends v)) → Held (items .count) listed place next len end (putOffAll s (neighborsOf items ends v))
+    unfolding neighborsOf
+    edges-left h = rw (edges-all, e) h
+
+  module _ (e : items .edges ≡ false) where
+    nodes-all : items .count ≡ items .nodes
+    unfolding countOf
+    nodes-all = rw e at (known .all)
+
+    pub nodes-asked : Held (items .count) listed place next len end s → v < items .count → Held (items .nodes) listed place next len end s × (v < items .nodes)
+    nodes-asked h l = rw (← nodes-all) (h, l)
+
+    pub nodes-left : Held (items .nodes) listed place next len end (putOffAll s (neighbors ends (edgeCount ends) v)) → Held (items .count) listed place next len end (putOffAll s (neighborsOf items ends v))
+    unfolding neighborsOf
+    nodes-left h = rw (nodes-all, e) h

@@ -1,0 +1,14 @@
+-- `across` meets its contract: the far end, or the edge itself.
+use borrow.Author.Needs.{needs}
+use Rattle.saturation.specs.Items.{node-across, edge-across}
+use Rattle.saturation.proofs.items.across.Statement.{statement}
+use Rattle.saturation.proofs.items.across.Tie as tie
+
+returns : tie.Need-returns
+returns c = search (needs, node-across)
+
+returns-2 : tie.Need-returns-2
+returns-2 c = search (needs, edge-across)
+
+pub across-spec : {M : Type 1} → statement M
+across-spec = tie.close (tie.spec (λ c. search needs) (λ c κs. search needs) (λ c. search needs) returns returns-2)

@@ -1,0 +1,16 @@
+-- `first_node` meets its contract: a node itself, or an edge's first end.
+use borrow.Author.Needs.{needs}
+use Rattle.saturation.specs.Items.{node-first, edge-first}
+use Rattle.saturation.proofs.items.first_node.Statement.{statement}
+use Rattle.saturation.proofs.items.first_node.Tie as tie
+
+returns : tie.Need-returns
+returns c = search (needs, node-first)
+
+returns-2 : tie.Need-returns-2
+returns-2 c = search (needs, edge-first)
+
+pub first-node-spec : {M : Type 1} → statement M
+first-node-spec =
+    tie.close
+    (tie.spec (λ c. search needs) (λ c. search needs) (λ c. search needs) (λ c. search needs) (λ c κs. search needs) returns returns-2)

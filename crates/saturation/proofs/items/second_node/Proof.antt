@@ -1,0 +1,19 @@
+-- `second_node` meets its contract: a node itself, or an edge's second end.
+use borrow.Author.Needs.{needs}
+use Rattle.saturation.specs.Items.{node-second, edge-second}
+use Rattle.saturation.proofs.items.second_node.Statement.{statement}
+use Rattle.saturation.proofs.items.second_node.Tie as tie
+
+returns : tie.Need-returns
+returns c = search (needs, node-second)
+
+returns-2 : tie.Need-returns-2
+returns-2 c = search (needs, edge-second)
+
+pub second-node-spec : {M : Type 1} → statement M
+second-node-spec =
+    tie.close
+    (tie.spec
+    (λ c. search needs) (λ c. search needs) (λ c. search needs) (λ c. search needs) (λ c. search needs) (λ c κs. search needs)
+    returns
+    returns-2)

@@ -1,0 +1,253 @@
+-- The items of either kind, the nodes that each has, and its neighbours by the edges at these nodes.
+use Prim.Native.Nat.{ℕ, _+_, _-_, _*_, _≤_, _<_}
+use mathlib.Core.Path.{_≡_, refl, sym, ap, subst, _∙_}
+use mathlib.Core.Logic.{_⊎_, inl, inr, _≢_}
+use mathlib.Core.List.{List, _∷_, _++_}
+use native.Mathlib.Omega.{arith}
+use lib.ListN.{length, getD}
+use Rattle.lists.specs.Member.{Mem}
+use Rattle.graph.specs.CheckLaws.{Passed, passed-inside}
+use Rattle.graph.specs.Edges.{edgeCount, firstEnd, secondEnd, farEnd, edgesAt, degree, neighbors}
+use Rattle.graph.specs.EdgeLaws.{At, at-edge}
+use Rattle.graph.specs.Stretch.{stretch}
+use Rattle.graph.specs.StretchLaws.{Table}
+use Rattle.graph.specs.NeighborLaws.{neighbor-edge, edge-neighbor, passed-neighbor, length-neighbors}
+use Rattle.line_graph.specs.LineNeighbors.{lineNeighbors}
+use Rattle.line_graph.specs.LineNeighborLaws.{line-neighbor-member, member-line-neighbor, line-neighbor-symmetric, line-times-symmetric, line-neighbor-bound, line-neighbor-count, line-neighbor-count-loop}
+use Rattle.greedy.specs.Greedy.{Neighborhood}
+use Rattle.graph.specs.Color.{smallestFrom}
+use Rattle.graph.specs.Colored.{noColor, colorOf, smallestFreeAt}
+use Rattle.greedy.specs.GreedyLaws.{node-neighborhood, edge-neighbors}
+use Rattle.greedy.specs.Marks.{farColors, smallest-color-node}
+use Rattle.greedy.specs.EdgeMarks.{colorsOf, smallest-color-edge}
+use Rattle.saturation.specs.declared.items.Kind.{Kind}
+use Rattle.saturation.specs.declared.items.Kind.the-variants.{Nodes, Edges}
+
+-- How many items a graph of n nodes has.
+abbrev pub itemsOf : Kind → ℕ → List ℕ → ℕ
+itemsOf Nodes n ends = n
+itemsOf Edges n ends = edgeCount ends
+
+-- The nodes of an item: a node itself, or an edge's two ends.
+unfoldable pub firstNode : Kind → List ℕ → ℕ → ℕ
+firstNode Nodes ends v = v
+firstNode Edges ends v = firstEnd ends v
+
+unfoldable pub secondNode : Kind → List ℕ → ℕ → ℕ
+secondNode Nodes ends v = v
+secondNode Edges ends v = secondEnd ends v
+
+-- The item to which edge k leads from node w: its far end, or the edge itself.
+unfoldable pub acrossOf : Kind → List ℕ → ℕ → ℕ → ℕ
+acrossOf Nodes ends k w = farEnd ends k w
+acrossOf Edges ends k w = k
+
+-- An edge stands once among the edges at each of its nodes.
+unfoldable pub ownOf : Kind → ℕ
+ownOf Nodes = 0
+ownOf Edges = 1
+
+-- The neighbours of an item.
+unfoldable pub neighborsOf : Kind → List ℕ → ℕ → List ℕ
+neighborsOf Nodes ends = neighbors ends (edgeCount ends)
+neighborsOf Edges ends = lineNeighbors ends (edgeCount ends)
+
+-- A graph that passed the checks has this many items.
+pub record Sized (kind : Kind) (ends : List ℕ) (items : ℕ) : Type 0 where
+  pub nodes : ℕ
+  pub passed : Passed nodes ends
+  pub size : items ≡ itemsOf kind nodes ends
+
+-- The same, with its table.
+pub record Tabled (kind : Kind) (ends starts entries : List ℕ) (items : ℕ) : Type 0 where
+  pub sized : Sized kind ends items
+  pub table : Table ends (sized .nodes) starts entries
+
+-- An item of such a graph.
+pub record Within (kind : Kind) (ends starts entries : List ℕ) (v : ℕ) : Type 0 where
+  pub items : ℕ
+  pub tabled : Tabled kind ends starts entries items
+  pub inside : v < items
+
+-- ---- as the code answers
+
+pub node-first : (kind : Kind) (ends : List ℕ) (v : ℕ) → kind ≡ Nodes → v ≡ firstNode kind ends v
+unfolding firstNode
+node-first kind ends v k = rw k
+
+pub edge-first : (kind : Kind) (ends : List ℕ) (v a : ℕ) → kind ≡ Edges → a ≡ getD ends (2 * v) 0 → a ≡ firstNode kind ends v
+unfolding firstNode firstEnd
+edge-first kind ends v a k e = rw k e
+
+pub node-second : (kind : Kind) (ends : List ℕ) (v : ℕ) → kind ≡ Nodes → v ≡ secondNode kind ends v
+unfolding secondNode
+node-second kind ends v k = rw k
+
+pub edge-second : (kind : Kind) (ends : List ℕ) (v a : ℕ) → kind ≡ Edges → a ≡ getD ends (2 * v + 1) 0 → a ≡ secondNode kind ends v
+unfolding secondNode secondEnd
+edge-second kind ends v a k e = rw k e
+
+pub node-across : (kind : Kind) (ends : List ℕ) (k w a : ℕ) → kind ≡ Nodes → a ≡ farEnd ends k w → a ≡ acrossOf kind ends k w
+unfolding acrossOf
+node-across kind ends k w a q e = rw q e
+
+pub edge-across : (kind : Kind) (ends : List ℕ) (k w : ℕ) → kind ≡ Edges → k ≡ acrossOf kind ends k w
+unfolding acrossOf
+edge-across kind ends k w q = rw q
+
+pub node-count-at : (kind : Kind) (edges at : List ℕ) → kind ≡ Nodes → edges ≡ at → length edges + ownOf kind ≡ length at
+unfolding ownOf
+node-count-at kind edges at k e = rw k (omega (arith, ap length e))
+
+pub edge-count-room : (kind : Kind) (edges at : List ℕ) → kind ≡ Edges → edges ≡ at → ownOf kind ≤ length at → 1 ≤ length edges
+unfolding ownOf
+edge-count-room kind edges at k e h = let z : 1 ≤ length at = rw k at h in omega (arith, ap length e)
+
+pub edge-count-at : (kind : Kind) (edges at : List ℕ) → kind ≡ Edges → edges ≡ at → ownOf kind ≤ length at → (length edges - 1) + ownOf kind ≡ length at
+unfolding ownOf
+edge-count-at kind edges at k e h = let z : 1 ≤ length at = rw k at h in rw k (omega (arith, ap length e))
+
+-- ---- a graph that passed
+
+pub items-few : (kind : Kind) (ends : List ℕ) (items : ℕ) → Sized kind ends items → items ≤ 4096
+items-few Nodes ends items sized = omega (arith, sized .size, sized .passed .nodes)
+items-few Edges ends items sized = omega (arith, sized .size, sized .passed .edges)
+
+pub first-inside : (kind : Kind) (ends : List ℕ) (items : ℕ) → (sized : Sized kind ends items) → (v : ℕ) → v < items → firstNode kind ends v < sized .nodes
+unfolding firstNode
+first-inside Nodes ends items sized v h = omega (arith, sized .size)
+first-inside Edges ends items sized v h = passed-inside (sized .nodes) ends (sized .passed) v (omega (arith, sized .size)) .0
+
+pub second-inside : (kind : Kind) (ends : List ℕ) (items : ℕ) → (sized : Sized kind ends items) → (v : ℕ) → v < items → secondNode kind ends v < sized .nodes
+unfolding secondNode
+second-inside Nodes ends items sized v h = omega (arith, sized .size)
+second-inside Edges ends items sized v h = passed-inside (sized .nodes) ends (sized .passed) v (omega (arith, sized .size)) .1
+
+pub nodes-room : (kind : Kind) (ends : List ℕ) (items : ℕ) → Sized kind ends items → (l : ℕ) → 512 ≤ l → (v : ℕ) → v < items → (firstNode kind ends v < l) × (secondNode kind ends v < l)
+nodes-room kind ends items sized l h v b =
+    (omega (arith, first-inside kind ends items sized v b, sized .passed .nodes), omega (arith, second-inside kind ends items sized v b, sized .passed .nodes))
+
+-- An edge leads from its ends to items.
+pub across-inside : (kind : Kind) (ends : List ℕ) (items : ℕ) → Sized kind ends items → (k w : ℕ) → k < edgeCount ends → At ends k w → acrossOf kind ends k w < items
+unfolding acrossOf
+across-inside Nodes ends items sized k w h p = rw (sized .size) (passed-neighbor (sized .nodes) ends (sized .passed) w (farEnd ends k w) (edge-neighbor ends (edgeCount ends) w k h p))
+across-inside Edges ends items sized k w h p = omega (arith, sized .size)
+
+pub neighborhood : (kind : Kind) (ends : List ℕ) (items : ℕ) → Sized kind ends items → Neighborhood (neighborsOf kind ends) items
+unfolding neighborsOf
+neighborhood Nodes ends items sized = rw (sized .size) (node-neighborhood (sized .nodes) ends (sized .passed))
+neighborhood Edges ends items sized =
+    let m = edgeCount ends in
+    let p = sized .passed in
+    rw (sized .size) (record {
+      items = omega (arith, p .edges);
+      inside = λ v w h q. line-neighbor-member ends m v w q .0;
+      symmetric = λ v w h q. line-neighbor-symmetric ends m w v h q;
+      times = λ v w h k d. line-times-symmetric ends m (sized .nodes) w v (passed-inside (sized .nodes) ends p) k h (λ e. d (sym e));
+      few = λ v h. omega (arith, line-neighbor-bound ends m v h, p .edges);
+    })
+
+-- ---- an item's neighbours are those to which the edges at its nodes lead
+
+-- w is a node of item v.
+abbrev pub NodeOf : Kind → List ℕ → ℕ → ℕ → Type 0
+NodeOf kind ends v w = (firstNode kind ends v ≡ w) ⊎ (secondNode kind ends v ≡ w)
+
+-- Edge k leads from a node of item v to item u.
+pub record Leading (kind : Kind) (ends : List ℕ) (v u : ℕ) : Type 0 where
+  pub edge : ℕ
+  pub node : ℕ
+  pub inside : edge < edgeCount ends
+  pub of-item : NodeOf kind ends v node
+  pub at : At ends edge node
+  pub to : acrossOf kind ends edge node ≡ u
+
+pub neighbor-leading : (kind : Kind) (ends : List ℕ) (v u : ℕ) → Mem u (neighborsOf kind ends v) → Leading kind ends v u
+unfolding neighborsOf firstNode secondNode acrossOf
+neighbor-leading Nodes ends v u p =
+    let r = neighbor-edge ends (edgeCount ends) v u p in
+    record { edge = r .0; node = v; inside = r .1; of-item = inl refl; at = r .2; to = r .3 }
+neighbor-leading Edges ends v u p =
+    let r = line-neighbor-member ends (edgeCount ends) v u p in
+    record { edge = u; node = r .2 .0; inside = r .0; of-item = r .2 .1; at = r .2 .2; to = refl }
+
+pub leading-neighbor : (kind : Kind) (ends : List ℕ) (items : ℕ) → Sized kind ends items → (v u : ℕ) → v < items → u ≢ v → Leading kind ends v u → Mem u (neighborsOf kind ends v)
+unfolding neighborsOf firstNode secondNode acrossOf
+leading-neighbor Nodes ends items sized v u h n l =
+    let e : l .node ≡ v = elim (l .of-item) [ inl p ↦ sym p | inr p ↦ sym p ] in
+    subst (λ (x : ℕ). Mem x (neighbors ends (edgeCount ends) v)) (ap (farEnd ends (l .edge)) (sym e) ∙ l .to) (edge-neighbor ends (edgeCount ends) v (l .edge) (l .inside) (subst (λ (w : ℕ). At ends (l .edge) w) e (l .at)))
+leading-neighbor Edges ends items sized v u h n l =
+    member-line-neighbor ends (edgeCount ends) v u (l .node) (omega (arith, sized .size)) (subst (λ (x : ℕ). x < edgeCount ends) (l .to) (l .inside)) n (l .of-item) (subst (λ (x : ℕ). At ends x (l .node)) (l .to) (l .at))
+
+-- ---- how many
+
+member-length : (k : ℕ) (ks : List ℕ) → Mem k ks → 1 ≤ length ks
+member-length k (j ∷ ks) p = omega arith
+
+module _ (ends starts entries : List ℕ) where
+  stretch-degree : (n v : ℕ) → Table ends n starts entries → v < n → length (stretch starts entries v) ≡ degree ends (edgeCount ends) v
+  unfolding degree
+  stretch-degree n v table h = ap length (table .row v h)
+
+  -- An edge of the graph, and its ends.
+  edge-within : (v : ℕ) → Within Edges ends starts entries v → v < edgeCount ends
+  edge-within v w = omega (arith, w .inside, w .tabled .sized .size)
+
+  own-at : (v a n : ℕ) → v < edgeCount ends → Table ends n starts entries → a < n → At ends v a → 1 ≤ length (stretch starts entries a)
+  own-at v a n h table b p = rw (table .row a b) (member-length v (edgesAt ends (edgeCount ends) a) (at-edge ends (edgeCount ends) a v h p))
+
+  -- An edge stands among the edges at its nodes.
+  pub own-first : (kind : Kind) (v a : ℕ) → Within kind ends starts entries v → a ≡ firstNode kind ends v → ownOf kind ≤ length (stretch starts entries a)
+  unfolding ownOf firstNode
+  own-first Nodes v a w e = omega arith
+  own-first Edges v a w e = let t = w .tabled in own-at v a (t .sized .nodes) (edge-within v w) (t .table) (rw e (first-inside Edges ends (w .items) (t .sized) v (w .inside))) (inl (sym e))
+
+  pub own-second : (kind : Kind) (v a : ℕ) → Within kind ends starts entries v → a ≡ secondNode kind ends v → ownOf kind ≤ length (stretch starts entries a)
+  unfolding ownOf secondNode
+  own-second Nodes v a w e = omega arith
+  own-second Edges v a w e = let t = w .tabled in own-at v a (t .sized .nodes) (edge-within v w) (t .table) (rw e (second-inside Edges ends (w .items) (t .sized) v (w .inside))) (inr (sym e))
+
+  -- The neighbours of an item whose two nodes are one,
+  pub neighbors-one : (kind : Kind) (v a b r : ℕ) → Within kind ends starts entries v → a ≡ firstNode kind ends v → b ≡ secondNode kind ends v → a ≡ b
+      → r + ownOf kind ≡ length (stretch starts entries a) → r ≡ length (neighborsOf kind ends v)
+  unfolding ownOf firstNode secondNode neighborsOf
+  neighbors-one Nodes v a b r w p q e s = let t = w .tabled in
+      omega (arith, s, stretch-degree (t .sized .nodes) a (t .table) (omega (arith, w .inside, t .sized .size)), ap (degree ends (edgeCount ends)) p, length-neighbors ends (edgeCount ends) v)
+  neighbors-one Edges v a b r w p q e s = let t = w .tabled in
+      omega (arith, s, stretch-degree (t .sized .nodes) a (t .table) (rw p (first-inside Edges ends (w .items) (t .sized) v (w .inside))), ap (degree ends (edgeCount ends)) p, line-neighbor-count-loop ends (edgeCount ends) v (edge-within v w) (sym p ∙ (e ∙ q)))
+
+  -- and of one with two nodes.
+  pub neighbors-two : (kind : Kind) (v a b r s : ℕ) → Within kind ends starts entries v → a ≡ firstNode kind ends v → b ≡ secondNode kind ends v → (a ≡ b → ⊥)
+      → r + ownOf kind ≡ length (stretch starts entries a) → s + ownOf kind ≡ length (stretch starts entries b) → r + s ≡ length (neighborsOf kind ends v)
+  unfolding ownOf firstNode secondNode neighborsOf
+  neighbors-two Nodes v a b r s w p q n x y = absurd (n (p ∙ sym q))
+  neighbors-two Edges v a b r s w p q n x y = let t = w .tabled in
+      omega (
+        arith,
+        x,
+        y,
+        stretch-degree (t .sized .nodes) a (t .table) (rw p (first-inside Edges ends (w .items) (t .sized) v (w .inside))),
+        ap (degree ends (edgeCount ends)) p,
+        stretch-degree (t .sized .nodes) b (t .table) (rw q (second-inside Edges ends (w .items) (t .sized) v (w .inside))),
+        ap (degree ends (edgeCount ends)) q,
+        line-neighbor-count ends (edgeCount ends) v (edge-within v w) (λ e. n (p ∙ (e ∙ sym q))),
+      )
+
+  -- So many fit.
+  pub neighbors-fit : (kind : Kind) (v a b r s : ℕ) → Within kind ends starts entries v → a ≡ firstNode kind ends v → b ≡ secondNode kind ends v → (a ≡ b → ⊥)
+      → r + ownOf kind ≡ length (stretch starts entries a) → s + ownOf kind ≡ length (stretch starts entries b) → r + s < 18446744073709551616
+  neighbors-fit kind v a b r s w p q n x y = omega (arith, neighbors-two kind v a b r s w p q n x y, neighborhood kind ends (w .items) (w .tabled .sized) .few v (w .inside))
+
+-- ---- the smallest colour that no neighbour has
+
+module _ (kind : Kind) (ends starts entries colors : List ℕ) (v r : ℕ) (t : Tabled kind ends starts entries (length colors)) (h : v < length colors) where
+  pub free-at-node : kind ≡ Nodes → r ≡ smallestFrom 512 (farColors ends colors v (stretch starts entries v)) 0 → r ≡ smallestFreeAt colors (neighborsOf kind ends v)
+  unfolding neighborsOf
+  free-at-node k e = rw k (smallest-color-node (t .sized .nodes) ends starts entries colors v r (t .sized .passed) (t .table) (omega (arith, t .sized .size ∙ ap (λ (x : Kind). itemsOf x (t .sized .nodes) ends) k)) e)
+
+  pub free-at-edge : kind ≡ Edges → colorOf colors v ≡ noColor
+      → r ≡ smallestFrom 4096 (colorsOf colors (stretch starts entries (firstEnd ends v)) ++ colorsOf colors (stretch starts entries (secondEnd ends v))) 0 → r ≡ smallestFreeAt colors (neighborsOf kind ends v)
+  unfolding neighborsOf
+  free-at-edge k bare e =
+      let b : v < edgeCount ends = omega (arith, t .sized .size ∙ ap (λ (x : Kind). itemsOf x (t .sized .nodes) ends) k) in
+      rw k (smallest-color-edge (t .sized .nodes) ends starts entries colors v r (t .sized .passed) (t .table) b bare e ∙ ap (smallestFreeAt colors) (edge-neighbors (t .sized .nodes) ends (t .sized .passed) v b))

@@ -1,0 +1,105 @@
+// What is coloured: the nodes of a graph, or its edges. A node's neighbours lie across its edges; an edge's are the other edges at its ends.
+ghost use mathlib.Core.Path.{_≡_};
+ghost use Prim.Native.Nat.{_+_, _≤_, _<_};
+ghost use lib.ListN.{length};
+ghost use Rattle.graph.specs.Stretch.{stretch};
+ghost use Rattle.graph.specs.Colored.{noColor, colorOf, smallestFreeAt};
+ghost use Rattle.saturation.specs.Items.{firstNode, secondNode, acrossOf, ownOf, neighborsOf, Tabled, Within};
+use graph::Color;
+use graph::EdgeIndex;
+use graph::NodeIndex;
+use graph::edges_at;
+use graph::end_at;
+use graph::far_end;
+use greedy::smallest_color;
+use greedy::smallest_edge_color;
+
+// Which items are coloured.
+pub enum Kind {
+    Nodes,
+    Edges,
+}
+
+// An item's number, a node's or an edge's.
+pub struct Item(pub u16);
+
+// The first node of an item: a node itself, or an edge's first end.
+pub(crate) fn first_node(kind: Kind, ends: &[u16], item: Item) -> NodeIndex
+    ensures { λ r. ⌜ r .0 ≡ firstNode kind (now (ends .entry)) (item .0) ⌝ }
+{
+    match kind {
+        Kind::Nodes => NodeIndex(item.0),
+        Kind::Edges => end_at(ends, 2 * item.0 as usize),
+    }
+}
+
+// The second node of an item: a node itself again, or an edge's second end.
+pub(crate) fn second_node(kind: Kind, ends: &[u16], item: Item) -> NodeIndex
+    ensures { λ r. ⌜ r .0 ≡ secondNode kind (now (ends .entry)) (item .0) ⌝ }
+{
+    match kind {
+        Kind::Nodes => NodeIndex(item.0),
+        Kind::Edges => end_at(ends, 2 * item.0 as usize + 1),
+    }
+}
+
+// The item to which an edge leads from a node: its far end, or the edge itself.
+pub(crate) fn across(kind: Kind, ends: &[u16], edge: EdgeIndex, node: NodeIndex) -> Item
+    ensures { λ r. ⌜ r .0 ≡ acrossOf kind (now (ends .entry)) (edge .0) (node .0) ⌝ }
+{
+    match kind {
+        Kind::Nodes => Item(far_end(ends, edge, node).0),
+        Kind::Edges => Item(edge.0),
+    }
+}
+
+// How many edges stand at a node of an item, an edge itself not counted.
+fn count_at(kind: Kind, starts: &[u16], entries: &[u16], node: NodeIndex) -> usize
+    requires { ⌜ ownOf kind ≤ length (stretch (now starts) (now entries) (node .0)) ⌝ }
+    ensures { λ r. ⌜ r + ownOf kind ≡ length (stretch (now (starts .entry)) (now (entries .entry)) (node .0)) ⌝ }
+{
+    let edges = edges_at(starts, entries, node);
+    match kind {
+        Kind::Nodes => edges.len(),
+        Kind::Edges => edges.len() - 1,
+    }
+}
+
+// How many neighbours an item has.
+pub(crate) fn neighbor_count(
+    kind: Kind,
+    ends: &[u16],
+    starts: &[u16],
+    entries: &[u16],
+    item: Item,
+) -> usize
+    requires { ⌜ Within kind (now ends) (now starts) (now entries) (item .0) ⌝ }
+    ensures { λ r. ⌜ r ≡ length (neighborsOf kind (now (ends .entry)) (item .0)) ⌝ }
+{
+    let first = first_node(kind, ends, item);
+    let second = second_node(kind, ends, item);
+    let count = count_at(kind, starts, entries, first);
+    if first.0 == second.0 {
+        return count;
+    }
+    count + count_at(kind, starts, entries, second)
+}
+
+// The smallest colour that no neighbour has.
+pub(crate) fn free_color(
+    kind: Kind,
+    ends: &[u16],
+    starts: &[u16],
+    entries: &[u16],
+    colors: &[u16],
+    item: Item,
+) -> Color
+    requires { ⌜ Tabled kind (now ends) (now starts) (now entries) (length (now colors)) ⌝ }
+    requires { ⌜ (item .0 < length (now colors)) × (colorOf (now colors) (item .0) ≡ noColor) ⌝ }
+    ensures { λ r. ⌜ r .0 ≡ smallestFreeAt (now (colors .entry)) (neighborsOf kind (now (ends .entry)) (item .0)) ⌝ }
+{
+    match kind {
+        Kind::Nodes => smallest_color(ends, starts, entries, colors, NodeIndex(item.0)),
+        Kind::Edges => smallest_edge_color(ends, starts, entries, colors, EdgeIndex(item.0)),
+    }
+}
