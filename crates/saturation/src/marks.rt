@@ -1,8 +1,8 @@
 // The items to which a colour is not new: one pass over the edges marks the nodes at which it stands, one over the items those with a marked node.
 ghost use mathlib.Core.Path.{_≡_};
 ghost use mathlib.Core.List.{[]};
-ghost use Prim.Native.Nat.{ℕ, _≤_, _<_};
-ghost use lib.ListN.{length, getD, replicate};
+ghost use Prim.Native.Nat.{_≤_, _<_};
+ghost use lib.ListN.{length};
 ghost use Rattle.graph.specs.Edges.{edgeCount};
 ghost use Rattle.graph.specs.Colored.{noColor};
 ghost use Rattle.greedy.specs.Marks.{Marked};

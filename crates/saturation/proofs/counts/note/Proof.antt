@@ -1,4 +1,4 @@
--- `note` meets its contract: the node has a colour, or the colour is new to it or not.
+-- `note` meets its contract: the item has a colour, or the colour is new to it or not.
 use native.Mathlib.Omega.{arith}
 use borrow.Author.Needs.{needs}
 use Rattle.saturation.specs.Notes.{note-colored, note-old, note-new}

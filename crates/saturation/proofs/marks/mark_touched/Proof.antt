@@ -1,3 +1,4 @@
+-- `mark_touched` meets its contract. The invariant: the nodes that the edges passed touch are marked.
 use Prim.Native.Nat.{_≤_, _-_}
 use mathlib.Core.Path.{_≡_}
 use native.Mathlib.Omega.{arith}
@@ -7,8 +8,6 @@ use Rattle.greedy.specs.Marks.{Marked}
 use Rattle.saturation.specs.Touched.{first-room, second-room, touched-all, touched, touched-none, touched-more}
 use Rattle.saturation.proofs.marks.mark_touched.Statement.{statement}
 use Rattle.saturation.proofs.marks.mark_touched.Tie as tie
-
--- `mark_touched` meets its contract. The invariant: the nodes that the edges passed touch are marked.
 
 abbrev Inv-loop : tie.InvT-loop
 Inv-loop kind ends colors color marks₀ m k₀ marks k = (k ≤ m) × (length marks ≡ length marks₀) × Marked marks (touched kind ends colors (color .0) k)

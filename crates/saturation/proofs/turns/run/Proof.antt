@@ -1,3 +1,4 @@
+-- `run` meets its contract: the start makes the counts ready, and the turns begin with the presets.
 use mathlib.Core.Path.{sym, ap, _∙_}
 use native.Mathlib.Omega.{arith}
 use lib.ListN.{length}
@@ -7,8 +8,6 @@ use Rattle.saturation.specs.Start.{started-ready, preset-none}
 use Rattle.saturation.specs.Turns.{from-presets}
 use Rattle.saturation.proofs.turns.run.Statement.{statement}
 use Rattle.saturation.proofs.turns.run.Tie as tie
-
--- `run` meets its contract: the start makes the counts ready, and the turns begin with the presets.
 
 start-requires : tie.Need-start-requires
 start-requires c κs = let p = c .before .before .before .before .before .before .before .before .before .pre in (p .0, omega (arith, items-few _ _ _ (p .0 .sized), p .1 .2))
