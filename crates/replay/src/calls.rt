@@ -33,6 +33,19 @@ fn put_coloring(text: &mut [u8], waiting: usize, name: &[u8], answer: Coloring) 
     }
 }
 
+// A colouring's report and its slice.
+fn put_colored(
+    text: &mut [u8],
+    waiting: usize,
+    name: &[u8],
+    answer: Coloring,
+    colors: &[u16],
+) -> usize {
+    let end = put_coloring(text, waiting, name, answer);
+    let end = put_list(text, end, colors);
+    put(text, end, b'\n')
+}
+
 fn put_line_list(text: &mut [u8], waiting: usize, answer: LineList) -> usize {
     match answer {
         LineList::Accepted { pairs } => put_report(
@@ -156,9 +169,7 @@ fn call_node_color(
     let colors = &mut list[..c];
     lend(colors);
     let answer = greedy_color::greedy_node_color(n, ends, colors);
-    let end = put_coloring(text, waiting, b"greedy_node_color", answer);
-    let end = put_list(text, end, colors);
-    put(text, end, b'\n')
+    put_colored(text, waiting, b"greedy_node_color", answer, colors)
 }
 
 fn call_node_color_preset(
@@ -174,14 +185,13 @@ fn call_node_color_preset(
     let colors = &mut list[..c];
     lend(colors);
     let answer = greedy_color::greedy_node_color_with_preset_colors(n, ends, presets, colors);
-    let end = put_coloring(
+    put_colored(
         text,
         waiting,
         b"greedy_node_color_with_preset_colors",
         answer,
-    );
-    let end = put_list(text, end, colors);
-    put(text, end, b'\n')
+        colors,
+    )
 }
 
 // 0 Degree, 1 Saturation, 2 IndependentSet; the cases have no other.
@@ -215,14 +225,13 @@ fn call_node_color_by(
         strategy,
         colors,
     );
-    let end = put_coloring(
+    put_colored(
         text,
         waiting,
         b"greedy_node_color_with_coloring_strategy",
         answer,
-    );
-    let end = put_list(text, end, colors);
-    put(text, end, b'\n')
+        colors,
+    )
 }
 
 fn call_edge_color(
@@ -237,9 +246,7 @@ fn call_edge_color(
     let colors = &mut list[..c];
     lend(colors);
     let answer = greedy_color::greedy_edge_color(n, ends, colors);
-    let end = put_coloring(text, waiting, b"greedy_edge_color", answer);
-    let end = put_list(text, end, colors);
-    put(text, end, b'\n')
+    put_colored(text, waiting, b"greedy_edge_color", answer, colors)
 }
 
 fn call_edge_color_by(
@@ -262,14 +269,13 @@ fn call_edge_color_by(
         strategy,
         colors,
     );
-    let end = put_coloring(
+    put_colored(
         text,
         waiting,
         b"greedy_edge_color_with_coloring_strategy",
         answer,
-    );
-    let end = put_list(text, end, colors);
-    put(text, end, b'\n')
+        colors,
+    )
 }
 
 fn call_misra_gries(
@@ -284,9 +290,7 @@ fn call_misra_gries(
     let colors = &mut list[..c];
     lend(colors);
     let answer = misra_gries::misra_gries_edge_color(n, ends, colors);
-    let end = put_coloring(text, waiting, b"misra_gries_edge_color", answer);
-    let end = put_list(text, end, colors);
-    put(text, end, b'\n')
+    put_colored(text, waiting, b"misra_gries_edge_color", answer, colors)
 }
 
 // The line's call; a line that is none prints nothing.
