@@ -33,10 +33,6 @@ getD-inside (x ∷ l) (suc i) d e h = getD-inside l i d e (omega arith)
 pub getD-same : (n i x : ℕ) → getD (replicate n x) i x ≡ x
 getD-same n i x = elim (decLt i n) [ yes h ↦ getD-replicate n i x x h | no h ↦ List·getD-eq-default (replicate n x) x (rw (length-replicate n x) (omega arith)) ]
 
-pub mem-of-map : (f : ℕ → ℕ) (c : ℕ) (ks : List ℕ) → Mem c (map f ks) → (k : ℕ) × Mem k ks × (f k ≡ c)
-mem-of-map f c (j ∷ ks) (inl p) = (j, inl refl, sym p)
-mem-of-map f c (j ∷ ks) (inr p) = let r = mem-of-map f c ks p in (r .0, inr (r .1), r .2)
-
 -- ---- entries and edges
 
 pub edge-none : (x : ℕ) → x ≡ noEdge → edgeOfEntry x ≡ none

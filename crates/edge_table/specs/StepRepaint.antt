@@ -5,7 +5,7 @@ use mathlib.Core.Logic.{inl, inr, _≢_}
 use mathlib.Core.List.{List, [], _∷_, _++_, map}
 use native.Mathlib.Omega.{arith}
 use lib.ListN.{length-map, length-append}
-use Rattle.lists.specs.Member.{Mem, Nodup, mem-append}
+use Rattle.lists.specs.Member.{Mem, Nodup, mem-append, map-mem}
 use Rattle.graph.specs.Edges.{farEnd, firstEnd}
 use Rattle.graph.specs.Colored.{noColor, colorOf}
 use Rattle.vizing.specs.MisraGries.{swap, exchange, rotate, find, step}
@@ -14,7 +14,6 @@ use Rattle.vizing.specs.Simple.{Incident}
 use Rattle.vizing.specs.AlternatingPath.{swap-left, swap-right, Exchanged, path-edge, exchange-proper, exchange-colored}
 use Rattle.vizing.specs.Step.{Invariant, FoundLaws}
 use Rattle.edge_table.specs.EdgeTable.{state, repainted}
-use Rattle.edge_table.specs.EdgeTableLaws.{mem-of-map}
 use Rattle.edge_table.specs.TableOf.{TableOf}
 use Rattle.edge_table.specs.Repaint.{Repaintable, repaint-done}
 
@@ -43,7 +42,7 @@ exchange-repaintable ends m l u c d ks E nodup inside low-c low-d = record {
   inside = inside;
   same-length = simp length-map;
   colors = λ b p.
-      let r = mem-of-map (λ (k : ℕ). swap c d (colorOf l k)) b ks p in
+      let r = map-mem (λ (k : ℕ). swap c d (colorOf l k)) b ks p in
       rw (← r .2) (elim (path-edge (E .path) (r .0) (r .1) .1) [ inl z ↦ rw (z, swap-right c d) low-c | inr z ↦ rw (z, swap-left c d) low-d ]);
   proper = exchange-proper E;
 }
@@ -57,7 +56,7 @@ rotate-repaintable ends m l T k ks d L proper nodup inside colored low-d = recor
   inside = inside;
   same-length = simp (length-append, length-map) (omega arith);
   colors = λ b p. elim (mem-append b (map (colorOf l) ks) (d ∷ []) p) [
-    | inl q ↦ let r = mem-of-map (colorOf l) b ks q in rw (← r .2) (L .colors (r .0) (inside (r .0) (inr (r .1))) (colored (r .0) (r .1)))
+    | inl q ↦ let r = map-mem (colorOf l) b ks q in rw (← r .2) (L .colors (r .0) (inside (r .0) (inr (r .1))) (colored (r .0) (r .1)))
     | inr q ↦ elim q [ inl z ↦ rw z low-d | inr z ↦ absurd z ]
   ];
   proper = proper;

@@ -6,7 +6,7 @@ use mathlib.Core.Path.{_≡_, refl, sym, ap, subst, _∙_}
 use native.Mathlib.Omega.{arith}
 use lib.ListN.{length, length-map}
 use Rattle.lists.specs.Tests.{dec-eq}
-use Rattle.lists.specs.Member.{Mem, mem-map, map-mem, nodup-bound}
+use Rattle.lists.specs.Member.{Mem, mem-map, map-mem, nodup-bound, map-append}
 use Rattle.lists.specs.Different.{count, count-append, count-here, count-there, count-none}
 use Rattle.graph.specs.Edges.{edgeCount, firstEnd, secondEnd, farEnd, firstEdges, secondEdges, edgesAt, degree, neighbors}
 use Rattle.graph.specs.EdgeLaws.{At, far-first, far-second, far-at, far-far, first-more, first-same, first-none, second-more, second-same, second-none, second-at-other, loop-not-second, edges-at-groups, edge-at, at-edge, edges-at-nodup}
@@ -60,10 +60,6 @@ module _ (ends : List ℕ) where
   -- How often w is the far end of these edges, from v.
   abbrev times : List ℕ → ℕ → ℕ → ℕ
   times ks v w = count w (map (λ (j : ℕ). farEnd ends j v) ks)
-
-  map-append : (f : ℕ → ℕ) (js ks : List ℕ) → map f (js ++ ks) ≡ map f js ++ map f ks
-  map-append f [] ks = refl
-  map-append f (j ∷ js) ks = ap (λ (l : List ℕ). f j ∷ l) (map-append f js ks)
 
   times-groups : (m v w : ℕ) → count w (neighbors ends m v) ≡ times (firstEdges ends m v) v w + times (secondEdges ends m v) v w
   unfolding neighbors

@@ -7,7 +7,7 @@ use native.Mathlib.Numerals.{add-one}
 use native.Mathlib.Omega.{arith}
 use lib.ListN.{length, getD, set, take, length-map}
 use lib.Seq.{take-suc, take-all}
-use Rattle.lists.specs.Member.{Mem, mem-append, mem-append-left, mem-append-right, mem-map, map-mem, cover-bound, below, mem-below, length-below}
+use Rattle.lists.specs.Member.{Mem, mem-append, mem-append-left, mem-append-right, mem-map, map-mem, cover-bound, below, mem-below, length-below, map-append}
 use Rattle.graph.specs.Edges.{edgeCount, firstEnd, secondEnd, edgesAt}
 use Rattle.graph.specs.EdgeLaws.{At, edge-at, at-edge}
 use Rattle.graph.specs.CheckLaws.{Passed, passed-inside}
@@ -19,7 +19,7 @@ use Rattle.graph.specs.StretchLaws.{Table}
 use Rattle.line_graph.specs.LineNeighborLaws.{line-neighbor-member}
 use Rattle.greedy.specs.Call.{edgeNeighbors}
 use Rattle.greedy.specs.GreedyLaws.{edge-neighborhood, edge-neighbors, sharing-neighbor}
-use Rattle.greedy.specs.Marks.{Marked, marked-more, map-append, FirstUnmarked, first-unmarked-smallest, smallest-from}
+use Rattle.greedy.specs.Marks.{Marked, marked-more, FirstUnmarked, first-unmarked-smallest, smallest-from}
 
 -- The colours of these edges, `noColor` for none.
 unfoldable pub colorsOf : List ℕ → List ℕ → List ℕ

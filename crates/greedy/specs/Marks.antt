@@ -9,7 +9,7 @@ use native.Mathlib.Omega.{arith}
 use lib.ListN.{length, getD, set, take, replicate, length-set, length-map, getD-replicate, length-replicate}
 use lib.Seq.{take-suc, take-all, getD-set-same, getD-set-other}
 use Rattle.lists.specs.Tests.{by-test, dec-eq}
-use Rattle.lists.specs.Member.{Mem, elem, elem-true, elem-false, mem-append, mem-append-left, mem-append-right, mem-map, map-mem, cover-bound, below, mem-below, length-below}
+use Rattle.lists.specs.Member.{Mem, elem, elem-true, elem-false, mem-append, mem-append-left, mem-append-right, mem-map, map-mem, cover-bound, below, mem-below, length-below, map-append}
 use Rattle.graph.specs.Edges.{farEnd, edgesAt, edgeCount, neighbors}
 use Rattle.graph.specs.NeighborLaws.{neighbors-far-ends, passed-neighbor, passed-degree}
 use Rattle.graph.specs.CheckLaws.{Passed}
@@ -49,10 +49,6 @@ marked-more marks cs c m = record {
         | inr e ↦ mem-append-left b cs (c ∷ []) (m .unmarked b h′ (rw (getD-set-other marks c b 1 0 e) at q))
       ];
 }
-
-pub map-append : (f : ℕ → ℕ) (js ks : List ℕ) → map f (js ++ ks) ≡ map f js ++ map f ks
-map-append f [] ks = refl
-map-append f (j ∷ js) ks = ap (λ (l : List ℕ). f j ∷ l) (map-append f js ks)
 
 -- Marking the colours at the far ends of a node's edges, one edge after the other.
 module _ (ends colors : List ℕ) (v : ℕ) (ks marks : List ℕ) where

@@ -9,7 +9,7 @@ use lib.Dec.{eqb}
 use lib.ListN.{length}
 use borrow.Author.Tests.{eq-eqb, ne-eqb, eqb-true}
 use Rattle.lists.specs.Tests.{by-test, dec-eq}
-use Rattle.lists.specs.Member.{Mem, Nodup}
+use Rattle.lists.specs.Member.{Mem, Nodup, map-append}
 use Rattle.graph.specs.Edges.{edgeCount, firstEnd, secondEnd, isLoop, farEnd, keep, secondAt, firstEdges, secondEdges, edgesAt, neighbors}
 use Rattle.graph.specs.EdgeLaws.{far-first, far-second, first-none, second-at-true, second-none}
 use Rattle.line_graph.specs.LineList.{pairsWith, pairsOf}
@@ -105,10 +105,6 @@ far-seconds k (x ∷ []) = ap (map (λ (i : ℕ). farEnd (x ∷ []) i k)) (secon
 far-seconds k (x ∷ y ∷ l) =
     ap (λ (j : ℕ). farSeconds (x ∷ y ∷ l) j k) (pair-count x y l)
     ∙ (seconds-moved x y l (edgeCount l) k ∙ ap (λ (r : List ℕ). r ++ keep (eqb y k && not (eqb x y)) x []) (far-seconds k l))
-
-map-append : (f : ℕ → ℕ) (js ks : List ℕ) → map f (js ++ ks) ≡ map f js ++ map f ks
-map-append f [] ks = refl
-map-append f (j ∷ js) ks = ap (λ (l : List ℕ). f j ∷ l) (map-append f js ks)
 
 pub neighbors-far : (k : ℕ) (l : List ℕ) → neighbors l (edgeCount l) k ≡ firstFar k l ++ secondFar k l
 unfolding neighbors edgesAt

@@ -140,3 +140,7 @@ mem-map f k (j ∷ ks) (inr p) = inr (mem-map f k ks p)
 pub map-mem : (f : ℕ → ℕ) (c : ℕ) (ks : List ℕ) → Mem c (map f ks) → (k : ℕ) × Mem k ks × (f k ≡ c)
 map-mem f c (j ∷ ks) (inl p) = (j, inl refl, sym p)
 map-mem f c (j ∷ ks) (inr p) = let r = map-mem f c ks p in (r .0, inr (r .1), r .2)
+
+pub map-append : (f : ℕ → ℕ) (js ks : List ℕ) → map f (js ++ ks) ≡ map f js ++ map f ks
+map-append f [] ks = refl
+map-append f (j ∷ js) ks = ap (λ (l : List ℕ). f j ∷ l) (map-append f js ks)

@@ -7,11 +7,11 @@ use native.Mathlib.Omega.{arith}
 use native.Mathlib.Numerals.{add-one}
 use lib.ListN.{length, getD, take, drop, set, take-append-drop}
 use lib.Seq.{take-suc, drop-cons, take-length, getD-set-same, getD-set-other}
+use Rattle.lists.specs.Member.{map-append}
 use Rattle.lists.specs.Tests.{dec-eq}
 use Rattle.lists.specs.Different.{count, count-append, count-here, count-there, count-none}
 use Rattle.graph.specs.Colored.{noColor, colorOf}
 use Rattle.graph.specs.ColoredLaws.{color-read}
-use Rattle.greedy.specs.Marks.{map-append}
 use Rattle.saturation.specs.declared.items.Kind.{Kind}
 use Rattle.saturation.specs.Items.{acrossOf}
 

@@ -10,10 +10,10 @@ use lib.ListN.{length, getD, take}
 use lib.Dec.{ltb, eqb}
 use borrow.Author.Tests.{lt-ltb, le-ltb, eq-eqb, ne-eqb, eqb-true, not-false}
 use Rattle.lists.specs.Tests.{by-test, dec-eq, true-and}
-use Rattle.lists.specs.Search.{allBelow}
+use Rattle.lists.specs.Search.{below-all}
 use Rattle.graph.specs.Edges.{edgeCount, firstEnd, secondEnd}
 use Rattle.graph.specs.Check.{Check, _gives_, firstRefusal, graphChecks, lengthCheck}
-use Rattle.graph.specs.CheckLaws.{refused-first, passed-first, first-refuses, first-passes, all-passed, passed, passed-inside}
+use Rattle.graph.specs.CheckLaws.{refused-first, passed-first, passed-both, first-refuses, first-passes, all-passed, passed, passed-inside}
 use Rattle.vizing.specs.MisraGries.{hasLoop, hasDoubleEdge, misraGriesChecks}
 use Rattle.vizing.specs.DefinitionLaws.{none-not-some, some-or-none}
 use Rattle.vizing.specs.FirstEdges.{first-end-take, second-end-take, edge-count-take}
@@ -21,11 +21,6 @@ use Rattle.vizing.specs.Simple.{SameEnds, simple-no-loop, simple-no-doub
 use Rattle.vizing.specs.Demand3.{Admitted}
 
 -- ---- an admitted list passes
-
-below-all : (n : ℕ) (xs : List ℕ) → ((i : ℕ) → i < length xs → getD xs i 0 < n) → allBelow n xs ≡ true
-unfolding allBelow
-below-all n [] inside = refl
-below-all n (x ∷ xs) inside = true-and (ltb x n) (allBelow n xs) (lt-ltb x n (inside 0 (omega arith))) (below-all n xs (λ i h. inside (suc i) (omega arith)))
 
 -- Each place of the end list is an end of an edge.
 admitted-places : (n : ℕ) (ends : List ℕ) → Admitted n ends → (i : ℕ) → i < length ends → getD ends i 0 < n
@@ -67,19 +62,13 @@ first-passed b k checks e =
     (λ t. absurd (none-not-some (firstRefusal ((b gives k) ∷ checks)) k e (first-refuses b k checks t)))
     (λ t. (t, sym (first-passes b k checks t) ∙ e))
 
-both-passed : (cs ds : List Check) → firstRefusal (cs ++ ds) ≡ none → (firstRefusal cs ≡ none) × (firstRefusal ds ≡ none)
-both-passed cs ds e = elim (some-or-none (firstRefusal cs)) [
-  | inl p ↦ (p, sym (passed-first cs ds p) ∙ e)
-  | inr (k, p) ↦ absurd (none-not-some (firstRefusal (cs ++ ds)) k e (refused-first cs ds k p))
-]
-
 pub passed-admitted : (n : ℕ) (ends colors : List ℕ) → firstRefusal (misraGriesChecks n ends colors) ≡ none → Admitted n ends × (length colors ≡ edgeCount ends)
 unfolding misraGriesChecks
 passed-admitted n ends colors e =
     let m = edgeCount ends in
     let double = (hasDoubleEdge ends m gives 7) ∷ [] in
     let loop = (hasLoop ends m gives 6) ∷ double in
-    let graph = both-passed (graphChecks n ends) (lengthCheck (length colors) m ∷ loop) e in
+    let graph = passed-both (graphChecks n ends) (lengthCheck (length colors) m ∷ loop) e in
     let size = first-passed (not (eqb (length colors) m)) 5 loop (graph .1) in
     let no-loop = first-passed (hasLoop ends m) 6 double (size .1) in
     let no-double = first-passed (hasDoubleEdge ends m) 7 [] (no-loop .1) in
