@@ -18,7 +18,7 @@ use graph::copy_colors;
 use graph::days_of;
 use graph::edges_at;
 use graph::end_at;
-use graph::incidence_front;
+use incidence::incidence_front;
 use greedy::check_edges;
 use greedy::smallest_edge_color;
 

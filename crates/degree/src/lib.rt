@@ -15,7 +15,7 @@ use graph::NodeIndex;
 use graph::copy_colors;
 use graph::days_of;
 use graph::edges_at;
-use graph::incidence_front;
+use incidence::incidence_front;
 use greedy::check_nodes;
 use greedy::smallest_color;
 

@@ -7,10 +7,7 @@ pub mod EdgeLaws
 pub mod Table
 pub mod TableLaws
 pub mod CountLaws
-pub mod FillLaws
-pub mod IncidenceLaws
 pub mod Stretch
-pub mod Front
 pub mod Walk
 pub mod WalkLaws
 pub mod StretchLaws

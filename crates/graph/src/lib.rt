@@ -1,11 +1,10 @@
-// Graphs as a node count and a list of ends: the checks, the incidence table, one node's edges and the walk over them.
+// Graphs as a node count and a list of ends: the checks, one node's edges and the walk over them, colours.
 ghost use mathlib.Core.Path.{_≡_};
 ghost use Rattle.graph.specs.Report.{number};
 
 mod check;
 mod colors;
 mod edges;
-mod table;
 pub mod walk;
 
 pub use check::check_graph;
@@ -14,8 +13,6 @@ pub use colors::days_of;
 pub use edges::edges_at;
 pub use edges::end_at;
 pub use edges::far_end;
-pub use table::incidence;
-pub use table::incidence_front;
 pub use walk::EdgeWalk;
 pub use walk::WalkStep;
 pub use walk::edge_at;

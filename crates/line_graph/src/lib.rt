@@ -6,7 +6,7 @@ ghost use Rattle.line_graph.specs.LineList.{lineGraph};
 use graph::Checked;
 use graph::Refusal;
 use graph::check_graph;
-use graph::incidence_front;
+use incidence::incidence_front;
 
 mod pairs;
 

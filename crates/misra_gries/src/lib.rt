@@ -21,7 +21,7 @@ use graph::Coloring;
 use graph::Refusal;
 use graph::check_graph;
 use graph::copy_colors;
-use graph::incidence_front;
+use incidence::incidence_front;
 use run::run;
 use tally::Tally;
 

@@ -99,7 +99,7 @@ fn call_incidence(
     let entries = &mut entries[..e];
     lend(starts);
     lend(entries);
-    let answer = graph::incidence(n, ends, starts, entries);
+    let answer = incidence::incidence(n, ends, starts, entries);
     let end = put_incidence(text, waiting, answer);
     let end = put_list(text, end, starts);
     let end = put(text, end, b';');

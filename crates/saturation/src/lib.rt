@@ -11,7 +11,7 @@ ghost use Rattle.saturation.specs.Same.{listNeighbors};
 use graph::Checked;
 use graph::Coloring;
 use graph::days_of;
-use graph::incidence_front;
+use incidence::incidence_front;
 use greedy::check_edges;
 use greedy::check_nodes;
 use items::Kind;

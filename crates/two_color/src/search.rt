@@ -17,7 +17,7 @@ use graph::NodeIndex;
 use graph::WalkStep;
 use graph::edge_at;
 use graph::far_end;
-use graph::incidence;
+use incidence::incidence;
 
 // How far the queue reaches now, or that two neighbours have the same colour.
 pub enum Reached {

@@ -13,7 +13,7 @@ pub use graph::check_graph;
 pub use graph::edge_at;
 pub use graph::edges_at;
 pub use graph::far_end;
-pub use graph::incidence;
+pub use incidence::incidence;
 pub use greedy::ColoringStrategy;
 pub use greedy_color::greedy_edge_color;
 pub use greedy_color::greedy_edge_color_with_coloring_strategy;

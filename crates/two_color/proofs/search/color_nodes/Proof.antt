@@ -5,7 +5,7 @@ use native.Mathlib.Omega.{arith}
 use lib.Seq.{length-take-le, take-at}
 use lib.ListN.{length, take}
 use borrow.Author.Needs.{needs}
-use Rattle.graph.specs.IncidenceLaws.{table-made}
+use Rattle.incidence.specs.IncidenceLaws.{table-made}
 use Rattle.lists.specs.Parts.{take-replicate}
 use Rattle.two_color.specs.SideLaws.{length-sides}
 use Rattle.two_color.proofs.search.color_nodes.Statement.{statement}
