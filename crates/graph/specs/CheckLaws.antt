@@ -3,16 +3,16 @@ use Prim.Native.Nat.{ℕ, _+_, _*_, _≤_, _<_, _%_, _/_}
 use mathlib.Core.Path.{_≡_, refl, sym, ap, _∙_}
 use mathlib.Core.List.{List, [], _∷_, _++_}
 use mathlib.Core.Logic.{_⊎_, inl, inr}
-use mathlib.Core.Bool.{Bool, true, false}
+use mathlib.Core.Bool.{Bool, true, false, not}
 use mathlib.Core.Option.{Option, none, some}
 use native.Mathlib.Omega.{arith}
 use lib.ListN.{length, getD}
 use lib.Dec.{ltb, eqb}
-use borrow.Author.Tests.{lt-ltb, le-ltb, eq-eqb, ne-eqb, ltb-false, eqb-false}
+use borrow.Author.Tests.{lt-ltb, le-ltb, eq-eqb, ne-eqb, ltb-false, eqb-true, eqb-false, not-false}
 use Rattle.lists.specs.Tests.{by-test}
 use Rattle.lists.specs.Search.{allBelow, all-below-at, below-all}
 use Rattle.graph.specs.Report.{accepted, refused, number, reportOfChecked}
-use Rattle.graph.specs.Check.{Check, _gives_, firstRefusal, answered, written, graphChecks, checkGraph}
+use Rattle.graph.specs.Check.{Check, _gives_, firstRefusal, answered, written, graphChecks, lengthCheck, checkGraph}
 use Rattle.graph.specs.Edges.{edgeCount, firstEnd, secondEnd}
 use Rattle.graph.specs.declared.Refusal.{Refusal}
 use Rattle.graph.specs.declared.Graph.{Graph}
@@ -70,6 +70,12 @@ pub first-passes : (b : Bool) (k : ℕ) (cs : List Check) → b ≡ false → fi
 unfolding firstRefusal
 first-passes b k cs e = simp e
 
+-- A check in front that passed, and the rest.
+pub passed-one : (b : Bool) (k : ℕ) (cs : List Check) → firstRefusal ((b gives k) ∷ cs) ≡ none → (b ≡ false) × (firstRefusal cs ≡ none)
+unfolding firstRefusal
+passed-one true k cs e = let z : _≡_ {A = ℕ} 0 1 = cc in absurd (omega arith)
+passed-one false k cs e = (refl, e)
+
 pub all-passed : firstRefusal [] ≡ none
 unfolding firstRefusal
 all-passed = refl
@@ -115,6 +121,16 @@ unfolding graphChecks firstRefusal
 passes n ends p =
     let e = p .even in
     simp (le-ltb 512 n (p .nodes), ne-eqb (length ends % 2) 1 (λ q. omega arith), le-ltb 8192 (length ends) (omega (arith, p .edges)), below-all n ends (p .inside))
+
+-- The graph checks and then one of a length: both pass, or not.
+pub sized-passed : (n : ℕ) (ends : List ℕ) (given wanted : ℕ) → firstRefusal (graphChecks n ends ++ lengthCheck given wanted ∷ []) ≡ none → Passed n ends × (given ≡ wanted)
+sized-passed n ends given wanted e =
+    let b = passed-both (graphChecks n ends) (lengthCheck given wanted ∷ []) e in
+    (passed n ends (b .0), eqb-true given wanted (not-false (eqb given wanted) (passed-one (not (eqb given wanted)) 5 [] (b .1) .0)))
+
+pub passed-sized : (n : ℕ) (ends : List ℕ) (given wanted : ℕ) → Passed n ends → given ≡ wanted → firstRefusal (graphChecks n ends ++ lengthCheck given wanted ∷ []) ≡ none
+passed-sized n ends given wanted p e =
+    passed-first (graphChecks n ends) (lengthCheck given wanted ∷ []) (passes n ends p) ∙ (first-passes (not (eqb given wanted)) 5 [] (simp (eq-eqb given wanted e)) ∙ all-passed)
 
 -- Both ends of every edge are below n.
 pub passed-inside : (n : ℕ) (ends : List ℕ) → Passed n ends → (k : ℕ) → k < edgeCount ends → (firstEnd ends k < n) × (secondEnd ends k < n)

@@ -1,5 +1,6 @@
 -- How a call answers, in the papers' terms: accepted with its values, or refused with a number.
 use Prim.Native.Nat.{ℕ}
+use mathlib.Core.Path.{_≡_}
 use Rattle.graph.specs.declared.Refusal.{Refusal}
 use Rattle.graph.specs.declared.Refusal.the-variants.{TooManyNodes, OddEnds, TooManyEnds, EndOutside, WrongLength, Loop, DoubleEdge, OddClosedWalk, ShortList, BadFile}
 use Rattle.graph.specs.declared.Checked.{Checked}
@@ -13,6 +14,10 @@ use Rattle.graph.specs.declared.Coloring.the-variants as O
 pub data Report (A : Type 0) : Type 0 where
   accepted : A → Report A
   refused : ℕ → Report A
+
+-- "refuses none": accepted, with whatever values.
+abbrev pub Accepted : {A : Type 0} → Report A → Type 0
+Accepted {A} report = (values : A) × (report ≡ accepted values)
 
 -- 01's number of each refusal.
 abbrev pub number : Refusal → ℕ

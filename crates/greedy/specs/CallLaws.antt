@@ -10,7 +10,7 @@ use borrow.Author.Tests.{eq-eqb, ne-eqb, eqb-true, not-false}
 use Rattle.lists.specs.Tests.{by-test, and-true}
 use Rattle.graph.specs.Report.{accepted, refused, number, reportOfChecked}
 use Rattle.graph.specs.Check.{Check, _gives_, firstRefusal, graphChecks, checkGraph}
-use Rattle.graph.specs.CheckLaws.{Passed, passed, refused-first, passed-first, passed-both, first-refuses, first-passes, all-passed, answered-refused, answered-accepted, written-refused, written-accepted, checked-refused, checked-accepted, graph-refused, graph-accepted}
+use Rattle.graph.specs.CheckLaws.{Passed, passed, passes, refused-first, passed-first, passed-both, first-refuses, first-passes, all-passed, answered-refused, answered-accepted, written-refused, written-accepted, checked-refused, checked-accepted, graph-refused, graph-accepted}
 use Rattle.graph.specs.Edges.{edgeCount, neighbors}
 use Rattle.graph.specs.Color.{daysOf, colored}
 use Rattle.graph.specs.declared.Refusal.{Refusal}
@@ -64,6 +64,13 @@ item-checks-passed n ends items presets colors e =
     by-test (wrong n ends items presets colors)
     (λ t. let f = first-refuses (wrong n ends items presets colors) 5 [] t in absurd (true≢false (cc)))
     (λ t. let r = and-true (eqb colors items) (eqb presets items) (not-false (eqb colors items && eqb presets items) t) in (passed n ends (b .0), eqb-true presets items (r .1), eqb-true colors items (r .0)))
+
+-- What passes them.
+pub passed-item-checks : (n : ℕ) (ends : List ℕ) (items presets colors : ℕ) → Passed n ends → presets ≡ items → colors ≡ items → firstRefusal (itemChecks n ends items presets colors) ≡ none
+unfolding itemChecks
+passed-item-checks n ends items presets colors p h k =
+    let t : wrong n ends items presets colors ≡ false = simp (eq-eqb colors items k, eq-eqb presets items h) in
+    passed-first (graphChecks n ends) ((wrong n ends items presets colors gives 5) ∷ []) (passes n ends p) ∙ (first-passes (wrong n ends items presets colors) 5 [] t ∙ all-passed)
 
 -- ---- a call by a strategy, which makes these checks first
 

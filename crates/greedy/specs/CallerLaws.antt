@@ -11,7 +11,7 @@ use lib.ListN.{length, replicate, length-replicate}
 use borrow.Author.Tests.{eq-eqb, ne-eqb}
 use Rattle.lists.specs.Tests.{dec-eq}
 use Rattle.lists.specs.Member.{Mem}
-use Rattle.graph.specs.Report.{Report, accepted, refused}
+use Rattle.graph.specs.Report.{Report, accepted, refused, Accepted}
 use Rattle.graph.specs.Check.{Check, _gives_, firstRefusal, graphChecks, lengthCheck}
 use Rattle.graph.specs.CheckLaws.{Passed, passed, passed-inside, refused-first, passed-first, first-refuses, first-passes, all-passed, answered-refused, answered-accepted, written-refused, written-accepted}
 use Rattle.graph.specs.Edges.{edgeCount, firstEnd, secondEnd, neighbors}
@@ -23,7 +23,7 @@ use Rattle.graph.specs.ColoredLaws.{color-replicate}
 use Rattle.greedy.specs.Greedy.{Neighborhood, Greedy}
 use Rattle.greedy.specs.GreedyLaws.{node-neighborhood, edge-neighborhood, sharing-neighbor}
 use Rattle.greedy.specs.Call.{Rule, itemChecks, greedyItems, greedyItemsPlain, greedyNodes, greedyNodesPlain, edgeNeighbors, greedyEdges, greedyEdgesPlain, HolidayLookup, PageGrid, EdgesApart}
-use Rattle.greedy.specs.CallLaws.{item-checks-passed, items-refused, items-accepted}
+use Rattle.greedy.specs.CallLaws.{item-checks-passed, passed-item-checks, items-refused, items-accepted}
 
 -- A strategy whose colours are greedy.
 abbrev pub GreedyRule : Rule → Type 0
@@ -48,6 +48,9 @@ module _ (rule : Rule) (greedy : GreedyRule rule) (nb : ℕ → List ℕ) (items
           let q = items-accepted nb items n ends presets lent rule p _ (rule nb items presets) refl refl in
           record { passed = c .0; found = rw (b ∙ sym (q .1)) (greedy nb items (hood (c .0)) presets (c .1)) }
 
+  accepts-all : Passed n ends → length presets ≡ items → length lent ≡ items → Accepted r
+  accepts-all p h k = (_, a ∙ sym (items-accepted nb items n ends presets lent rule (passed-item-checks n ends items (length presets) (length lent) p h k) _ (rule nb items presets) refl refl .0))
+
   holidays : HolidayLookup items presets r colors
   holidays = record { kept = λ days e v h d. accepts days e .found .kept v h d }
 
@@ -62,6 +65,10 @@ module _ (rule : Rule) (greedy : GreedyRule rule) (n : ℕ) (ends presets lent :
   node-answer : (days : ℕ) → r ≡ accepted days → Answer n ends (neighbors ends (edgeCount ends)) n presets colors
   unfolding greedyNodes
   node-answer = accepts rule greedy (neighbors ends (edgeCount ends)) n n ends presets lent (node-neighborhood n ends) r colors a b
+
+  pub nodes-accept : Passed n ends → length presets ≡ n → length lent ≡ n → Accepted r
+  unfolding greedyNodes
+  nodes-accept = accepts-all rule greedy (neighbors ends (edgeCount ends)) n n ends presets lent (node-neighborhood n ends) r colors a b
 
   pub page-grid : PageGrid n ends presets r colors
   page-grid = record {
@@ -84,6 +91,10 @@ module _ (rule : Rule) (greedy : GreedyRule rule) (n : ℕ) (ends presets lent :
   edge-answer : (days : ℕ) → r ≡ accepted days → Answer n ends (edgeNeighbors n ends) (edgeCount ends) presets colors
   unfolding greedyEdges
   edge-answer = accepts rule greedy (edgeNeighbors n ends) (edgeCount ends) n ends presets lent (edge-neighborhood n ends) r colors a b
+
+  pub edges-accept : Passed n ends → length presets ≡ edgeCount ends → length lent ≡ edgeCount ends → Accepted r
+  unfolding greedyEdges
+  edges-accept = accepts-all rule greedy (edgeNeighbors n ends) (edgeCount ends) n ends presets lent (edge-neighborhood n ends) r colors a b
 
   pub edges-apart : EdgesApart ends presets r colors
   edges-apart = record {

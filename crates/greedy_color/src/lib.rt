@@ -1,7 +1,9 @@
 // Greedy colouring: the three public calls for nodes, and the calls for edges.
 ghost use mathlib.Core.Path.{_≡_};
 ghost use mathlib.Core.List.{[]};
-ghost use Rattle.graph.specs.Report.{reportOfColoring};
+ghost use lib.ListN.{length};
+ghost use Rattle.graph.specs.Report.{reportOfColoring, Accepted};
+ghost use Rattle.graph.specs.CheckLaws.{Passed};
 ghost use Rattle.graph.specs.Edges.{edgeCount};
 ghost use Rattle.greedy.specs.Degree.{degreeColors};
 ghost use Rattle.greedy.specs.Call.{ruleOf, greedyNodes, greedyNodesPlain, greedyEdges, greedyEdgesPlain, HolidayLookup, PageGrid, EdgesApart};
@@ -15,6 +17,7 @@ use greedy::ColoringStrategy;
 pub fn greedy_node_color(n: usize, ends: &[u16], colors: &mut [u16]) -> Coloring
     ensures { λ r. ⌜ reportOfColoring r ≡ greedyNodesPlain degreeColors n (now (ends .entry)) (now (colors .entry)) .report ⌝ }
     ensures { λ _. ⌜ now (colors .exit) ≡ greedyNodesPlain degreeColors n (now (ends .entry)) (now (colors .entry)) .colors ⌝ }
+    ensures accepts { λ r. ⌜ (Passed n (now (ends .entry)) → length (now (colors .entry)) ≡ n → Accepted (reportOfColoring r)) ⌝ }
     ensures grid { λ r. ⌜ PageGrid n (now (ends .entry)) [] (reportOfColoring r) (now (colors .exit)) ⌝ }
 {
     let presets = [Color::NONE; 512];
@@ -35,6 +38,7 @@ pub fn greedy_node_color_with_preset_colors(
 ) -> Coloring
     ensures { λ r. ⌜ reportOfColoring r ≡ greedyNodes degreeColors n (now (ends .entry)) (now (presets .entry)) (now (colors .entry)) .report ⌝ }
     ensures { λ _. ⌜ now (colors .exit) ≡ greedyNodes degreeColors n (now (ends .entry)) (now (presets .entry)) (now (colors .entry)) .colors ⌝ }
+    ensures accepts { λ r. ⌜ (Passed n (now (ends .entry)) → length (now (presets .entry)) ≡ n → length (now (colors .entry)) ≡ n → Accepted (reportOfColoring r)) ⌝ }
     ensures holidays { λ r. ⌜ HolidayLookup n (now (presets .entry)) (reportOfColoring r) (now (colors .exit)) ⌝ }
     ensures grid { λ r. ⌜ PageGrid n (now (ends .entry)) (now (presets .entry)) (reportOfColoring r) (now (colors .exit)) ⌝ }
 {
@@ -51,6 +55,7 @@ pub fn greedy_node_color_with_coloring_strategy(
 ) -> Coloring
     ensures { λ r. ⌜ reportOfColoring r ≡ greedyNodes (ruleOf strategy) n (now (ends .entry)) (now (presets .entry)) (now (colors .entry)) .report ⌝ }
     ensures { λ _. ⌜ now (colors .exit) ≡ greedyNodes (ruleOf strategy) n (now (ends .entry)) (now (presets .entry)) (now (colors .entry)) .colors ⌝ }
+    ensures accepts { λ r. ⌜ (Passed n (now (ends .entry)) → length (now (presets .entry)) ≡ n → length (now (colors .entry)) ≡ n → Accepted (reportOfColoring r)) ⌝ }
     ensures holidays { λ r. ⌜ HolidayLookup n (now (presets .entry)) (reportOfColoring r) (now (colors .exit)) ⌝ }
     ensures grid { λ r. ⌜ PageGrid n (now (ends .entry)) (now (presets .entry)) (reportOfColoring r) (now (colors .exit)) ⌝ }
 {
@@ -65,6 +70,7 @@ pub fn greedy_node_color_with_coloring_strategy(
 pub fn greedy_edge_color(n: usize, ends: &[u16], colors: &mut [u16]) -> Coloring
     ensures { λ r. ⌜ reportOfColoring r ≡ greedyEdgesPlain degreeColors n (now (ends .entry)) (now (colors .entry)) .report ⌝ }
     ensures { λ _. ⌜ now (colors .exit) ≡ greedyEdgesPlain degreeColors n (now (ends .entry)) (now (colors .entry)) .colors ⌝ }
+    ensures accepts { λ r. ⌜ (Passed n (now (ends .entry)) → length (now (colors .entry)) ≡ edgeCount (now (ends .entry)) → Accepted (reportOfColoring r)) ⌝ }
     ensures apart { λ r. ⌜ EdgesApart (now (ends .entry)) [] (reportOfColoring r) (now (colors .exit)) ⌝ }
 {
     let presets = [Color::NONE; 4096];
@@ -86,6 +92,7 @@ pub fn greedy_edge_color_with_coloring_strategy(
 ) -> Coloring
     ensures { λ r. ⌜ reportOfColoring r ≡ greedyEdges (ruleOf strategy) n (now (ends .entry)) (now (presets .entry)) (now (colors .entry)) .report ⌝ }
     ensures { λ _. ⌜ now (colors .exit) ≡ greedyEdges (ruleOf strategy) n (now (ends .entry)) (now (presets .entry)) (now (colors .entry)) .colors ⌝ }
+    ensures accepts { λ r. ⌜ (Passed n (now (ends .entry)) → length (now (presets .entry)) ≡ edgeCount (now (ends .entry)) → length (now (colors .entry)) ≡ edgeCount (now (ends .entry)) → Accepted (reportOfColoring r)) ⌝ }
     ensures holidays { λ r. ⌜ HolidayLookup (edgeCount (now (ends .entry))) (now (presets .entry)) (reportOfColoring r) (now (colors .exit)) ⌝ }
     ensures apart { λ r. ⌜ EdgesApart (now (ends .entry)) (now (presets .entry)) (reportOfColoring r) (now (colors .exit)) ⌝ }
 {

@@ -3,12 +3,12 @@ use Prim.Native.Nat.{ℕ, _≤_}
 use mathlib.Core.Path.{_≡_}
 use mathlib.Core.List.{List, [], _∷_}
 use lib.ListN.{length, take}
-use Rattle.graph.specs.Report.{Report}
+use Rattle.graph.specs.Report.{Report, accepted, Accepted}
 use Rattle.graph.specs.Check.{_gives_}
 use Rattle.graph.specs.Edges.{edgeCount}
 use Rattle.graph.specs.Color.{Outcome, colored}
 use Rattle.vizing.specs.MisraGries.{held, hasDoubleEdge, misraGries}
-use Rattle.vizing.specs.Demand3.{Admitted, Accepted, Accurate, FirstEdgesAlone}
+use Rattle.vizing.specs.Demand3.{Admitted, Accurate, FirstEdgesAlone}
 
 -- The outcome where all checks but 7 pass.
 unfoldable pub lastOutcome : ℕ → List ℕ → List ℕ → Outcome
@@ -23,4 +23,7 @@ pub record Demand3Of (n : ℕ) (ends : List ℕ) (report : Report ℕ) (colors :
 
 -- What the date table relies on.
 pub record DateTable (n : ℕ) (ends lent : List ℕ) (report : Report ℕ) (colors : List ℕ) : Type 0 where
+  -- Every admitted list with a place for each edge is accepted, and demand 3 holds of it,
   pub demand3 : Admitted n ends → length lent ≡ edgeCount ends → Demand3Of n ends report colors
+  -- and nothing else is accepted.
+  pub admits : (days : ℕ) → report ≡ accepted days → Admitted n ends × (length lent ≡ edgeCount ends)

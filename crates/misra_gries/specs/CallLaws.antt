@@ -3,13 +3,14 @@ use Prim.Native.Nat.{ℕ}
 use mathlib.Core.Path.{_≡_, refl, sym, ap, _∙_}
 use mathlib.Core.List.{List, [], _∷_}
 use mathlib.Core.Bool.{Bool, true, false, not}
-use mathlib.Core.Option.{none, some}
+use mathlib.Core.Option.{Option, none, some}
+use native.Mathlib.Omega.{arith}
 use lib.ListN.{length, take}
 use lib.Dec.{eqb}
-use borrow.Author.Tests.{eq-eqb, ne-eqb}
+use borrow.Author.Tests.{eq-eqb, ne-eqb, eqb-true, not-false}
 use Rattle.graph.specs.Report.{Report, accepted, refused, number, reportOfChecked}
 use Rattle.graph.specs.Check.{Check, _gives_, firstRefusal, answered, written, graphChecks, lengthCheck, checkGraph}
-use Rattle.graph.specs.CheckLaws.{Passed, passed, passed-inside, refused-first, passed-first, first-refuses, first-passes, all-passed, answered-refused, answered-accepted, written-refused, written-accepted, graph-refused, graph-accepted}
+use Rattle.graph.specs.CheckLaws.{Passed, passed, passed-inside, refused-first, passed-first, passed-both, passed-one, first-refuses, first-passes, all-passed, answered-refused, answered-accepted, written-refused, written-accepted, graph-refused, graph-accepted}
 use Rattle.graph.specs.Edges.{edgeCount}
 use Rattle.graph.specs.Color.{Outcome, colored, daysOf}
 use Rattle.graph.specs.declared.Refusal.{Refusal}
@@ -92,9 +93,29 @@ module _ (n : ℕ) (ends lent : List ℕ) where
 
   -- ---- demand 3
 
+  -- What passed every check.
+  checks-passed : firstRefusal (misraGriesChecks n ends lent) ≡ none → Admitted n ends × (length lent ≡ edgeCount ends)
+  unfolding misraGriesChecks
+  checks-passed e =
+      let m = edgeCount ends in
+      let twos : List Check = (hasLoop ends m gives 6) ∷ (hasDoubleEdge ends m gives 7) ∷ [] in
+      let b = passed-both (graphChecks n ends) (lengthCheck (length lent) m ∷ twos) e in
+      let l = passed-one (not (eqb (length lent) m)) 5 twos (b .1) in
+      let o = passed-one (hasLoop ends m) 6 ((hasDoubleEdge ends m gives 7) ∷ []) (l .1) in
+      let d = passed-one (hasDoubleEdge ends m) 7 [] (o .1) in
+      (passed-admitted n ends (passed n ends (b .0)) (o .0) (d .0), eqb-true (length lent) m (not-false (eqb (length lent) m) (l .0)))
+
+  admitted : (r : Report ℕ) (days : ℕ) → r ≡ misraGries n ends lent .report → r ≡ accepted days → Admitted n ends × (length lent ≡ edgeCount ends)
+  admitted r days p e = go (firstRefusal (misraGriesChecks n ends lent)) refl
+    where
+      go : (o : Option ℕ) → firstRefusal (misraGriesChecks n ends lent) ≡ o → Admitted n ends × (length lent ≡ edgeCount ends)
+      go none f = checks-passed f
+      go (some k) f = let q = refuses k f .0 in let z : _≡_ {A = ℕ} 0 1 = cc in absurd (omega arith)
+
   pub date-table : (r : Report ℕ) (colors : List ℕ) → r ≡ misraGries n ends lent .report → colors ≡ misraGries n ends lent .colors → DateTable n ends lent r colors
   date-table r colors p q = record {
     demand3 = λ a l.
         let d = demand3 n ends lent a l in
         record { accepts = rw p (d .accepts); accurate = rw q (d .accurate); first = d .first };
+    admits = λ days e. admitted r days p e;
   }

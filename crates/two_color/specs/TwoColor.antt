@@ -1,12 +1,12 @@
 -- The outcome of two_color, and what the proof printer relies on.
 use Prim.Native.Nat.{ℕ, _≤_, _<_}
 use mathlib.Core.Path.{_≡_}
-use mathlib.Core.Logic.{_≢_}
+use mathlib.Core.Logic.{_⊎_, _≢_}
 use mathlib.Core.List.{List, [], _∷_, _++_}
-use mathlib.Core.Option.{none}
 use lib.ListN.{length, getD}
-use Rattle.graph.specs.Report.{Report, accepted, refused}
-use Rattle.graph.specs.Check.{Check, _gives_, firstRefusal, graphChecks, lengthCheck}
+use Rattle.graph.specs.Report.{Report, accepted, refused, Accepted}
+use Rattle.graph.specs.Check.{Check, _gives_, graphChecks, lengthCheck}
+use Rattle.graph.specs.CheckLaws.{Passed}
 use Rattle.graph.specs.Edges.{edgeCount, firstEnd, secondEnd}
 use Rattle.graph.specs.Color.{Outcome, colored}
 use Rattle.two_color.specs.Walk.{Walk, OddClosedWalk}
@@ -25,9 +25,11 @@ twoColor n ends colors =
 -- What the proof printer relies on: "a plain no where it can't be done", and two ink passes that part every edge where it can.
 pub record ProofPrinter (n : ℕ) (ends lent : List ℕ) (report : Report ℕ) (colors : List ℕ) : Type 0 where
   -- 8 is said only where the other checks pass and an odd closed walk exists,
-  pub no : report ≡ refused 8 → (firstRefusal (inputChecks n ends lent) ≡ none) × OddClosedWalk ends (edgeCount ends)
-  -- and wherever they do.
-  pub cannot : firstRefusal (inputChecks n ends lent) ≡ none → OddClosedWalk ends (edgeCount ends) → report ≡ refused 8
+  pub no : report ≡ refused 8 → Passed n ends × (length lent ≡ n) × OddClosedWalk ends (edgeCount ends)
+  -- and wherever they do;
+  pub cannot : Passed n ends → length lent ≡ n → OddClosedWalk ends (edgeCount ends) → report ≡ refused 8
+  -- all else that passes them is accepted.
+  pub answers : Passed n ends → length lent ≡ n → (report ≡ refused 8) ⊎ Accepted report
   -- Where the call accepts, the ends of every edge have different colours,
   pub differ : (days : ℕ) → report ≡ accepted days → (k : ℕ) → k < edgeCount ends → getD colors (firstEnd ends k) 0 ≢ getD colors (secondEnd ends k) 0
   -- and the lowest node of each component, from which no walk leads to a lower one, has 1.

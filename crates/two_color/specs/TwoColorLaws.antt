@@ -2,6 +2,7 @@
 use Prim.Native.Nat.{ℕ, _-_, _≤_, _<_}
 use mathlib.Core.Path.{_≡_, refl, sym, ap, _∙_}
 use mathlib.Core.List.{List, [], _∷_}
+use mathlib.Core.Logic.{_⊎_, inl, inr}
 use mathlib.Core.Bool.{true, false, not}
 use mathlib.Core.Option.{Option, none, some}
 use native.Mathlib.Omega.{arith}
@@ -9,9 +10,9 @@ use lib.ListN.{length, getD}
 use lib.Dec.{eqb}
 use borrow.Author.Tests.{eq-eqb, ne-eqb}
 use Rattle.lists.specs.Tests.{by-test}
-use Rattle.graph.specs.Report.{Report, accepted, refused, number, reportOfChecked}
+use Rattle.graph.specs.Report.{Report, accepted, refused, Accepted, number, reportOfChecked}
 use Rattle.graph.specs.Check.{Check, _gives_, firstRefusal, answered, written, graphChecks, lengthCheck, checkGraph}
-use Rattle.graph.specs.CheckLaws.{Passed, passed, passed-inside, refused-first, passed-first, first-refuses, first-passes, all-passed, answered-refused, answered-accepted, written-refused, written-accepted, graph-refused, graph-accepted}
+use Rattle.graph.specs.CheckLaws.{Passed, passed, passed-inside, sized-passed, passed-sized, refused-first, passed-first, first-refuses, first-passes, all-passed, answered-refused, answered-accepted, written-refused, written-accepted, graph-refused, graph-accepted}
 use Rattle.graph.specs.Edges.{edgeCount, firstEnd, secondEnd}
 use Rattle.graph.specs.Color.{colored, daysOf}
 use Rattle.graph.specs.declared.Refusal.{Refusal}
@@ -121,24 +122,29 @@ module _ (n : ℕ) (ends lent : List ℕ) where
           (λ t. odd e t (sym (sides-refused n ends lent t .0 ∙ o .0)))
           (λ t. let a = sides-accepted n ends lent _ (sides ends (edgeCount ends) n) (sides ends (edgeCount ends) n) t refl refl refl in sided e t (sym (a .0 ∙ o .0)) (sym (a .1 ∙ o .1)))
 
-  input-passed : firstRefusal (inputChecks n ends lent) ≡ none → Passed n ends
+  input-passed : firstRefusal (inputChecks n ends lent) ≡ none → Passed n ends × (length lent ≡ n)
   unfolding inputChecks
-  input-passed e = go (firstRefusal (graphChecks n ends)) refl
-    where
-      go : (o : Option ℕ) → firstRefusal (graphChecks n ends) ≡ o → Passed n ends
-      go none p = passed n ends p
-      go (some k) p = let q = refused-first (graphChecks n ends) (lengthCheck (length lent) n ∷ []) k p in let z : _≡_ {A = ℕ} 0 1 = cc in absurd (omega arith)
+  input-passed e = sized-passed n ends (length lent) n e
+
+  passed-input : Passed n ends → length lent ≡ n → firstRefusal (inputChecks n ends lent) ≡ none
+  unfolding inputChecks
+  passed-input p l = passed-sized n ends (length lent) n p l
 
   module _ (r : Report ℕ) (colors : List ℕ) (a : r ≡ twoColor n ends lent .report) (b : colors ≡ twoColor n ends lent .colors) where
-    says-no : Answer n ends lent → r ≡ refused 8 → (firstRefusal (inputChecks n ends lent) ≡ none) × OddClosedWalk ends (edgeCount ends)
+    says-no : Answer n ends lent → r ≡ refused 8 → Passed n ends × (length lent ≡ n) × OddClosedWalk ends (edgeCount ends)
     says-no (early k h f p) e = let i : k ≡ 8 = cc in absurd (omega arith)
-    says-no (odd f t p) e = (f, odd-cycle-walk ends (edgeCount ends) t)
+    says-no (odd f t p) e = let i = input-passed f in (i .0, i .1, odd-cycle-walk ends (edgeCount ends) t)
     says-no (sided f t p q) e = let z : _≡_ {A = ℕ} 0 1 = cc in absurd (omega arith)
 
     cannot-be : Answer n ends lent → firstRefusal (inputChecks n ends lent) ≡ none → OddClosedWalk ends (edgeCount ends) → r ≡ refused 8
     cannot-be (early k h f p) e w = let z : _≡_ {A = ℕ} 0 1 = cc in absurd (omega arith)
     cannot-be (odd f t p) e w = a ∙ p
     cannot-be (sided f t p q) e w = let u = walk-odd-cycle ends (edgeCount ends) w in let z : _≡_ {A = ℕ} 0 1 = cc in absurd (omega arith)
+
+    answers-one : Answer n ends lent → firstRefusal (inputChecks n ends lent) ≡ none → (r ≡ refused 8) ⊎ Accepted r
+    answers-one (early k h f p) e = let z : _≡_ {A = ℕ} 0 1 = cc in absurd (omega arith)
+    answers-one (odd f t p) e = inl (a ∙ p)
+    answers-one (sided f t p q) e = inr (_, a ∙ p)
 
     -- Where the call accepts, it gives the sides.
     record Sided : Type 0 where
@@ -149,12 +155,13 @@ module _ (n : ℕ) (ends lent : List ℕ) where
     accepts : Answer n ends lent → (days : ℕ) → r ≡ accepted days → Sided
     accepts (early k h f p) days e = let z : _≡_ {A = ℕ} 0 1 = cc in absurd (omega arith)
     accepts (odd f t p) days e = let z : _≡_ {A = ℕ} 0 1 = cc in absurd (omega arith)
-    accepts (sided f t p q) days e = record { passed = input-passed f; even = t; at = λ v h. ap (λ (l : List ℕ). getD l v 0) (b ∙ q) ∙ sides-at ends (edgeCount ends) n v h }
+    accepts (sided f t p q) days e = record { passed = input-passed f .0; even = t; at = λ v h. ap (λ (l : List ℕ). getD l v 0) (b ∙ q) ∙ sides-at ends (edgeCount ends) n v h }
 
     pub proof-printer : ProofPrinter n ends lent r colors
     proof-printer = record {
       no = says-no answer;
-      cannot = cannot-be answer;
+      cannot = λ h l. cannot-be answer (passed-input h l);
+      answers = λ h l. answers-one answer (passed-input h l);
       differ = λ days e k h q.
           let s = accepts answer days e in
           let i = passed-inside n ends (s .passed) k h in

@@ -10,7 +10,7 @@ use lib.ListN.{length, getD, take}
 use Rattle.lists.specs.Tests.{dec-eq}
 use Rattle.graph.specs.Edges.{edgeCount, firstEnd, secondEnd, degree}
 use Rattle.graph.specs.CountLaws.{degree-bound}
-use Rattle.graph.specs.Report.{Report, accepted}
+use Rattle.graph.specs.Report.{Accepted}
 use Rattle.graph.specs.Color.{Outcome}
 use Rattle.graph.specs.Colored.{noColor, colorOf}
 use Rattle.vizing.specs.Simple.{Simple, Incident}
@@ -54,10 +54,6 @@ pub record Admitted (n : ℕ) (ends : List ℕ) : Type 0 where
   pub inside : (k : ℕ) → k < edgeCount ends → (firstEnd ends k < n) × (secondEnd ends k < n)
   pub simple : Simple ends (edgeCount ends)
 
--- "refuses none"
-abbrev pub Accepted : Report ℕ → Type 0
-Accepted report = (days : ℕ) × (report ≡ accepted days)
-
 -- The accuracy rule, of the colours of all edges. A place that is missing counts as 65,535.
 pub record Accurate (n : ℕ) (ends : List ℕ) (colors : List ℕ) : Type 0 where
   -- "each edge gets one colour from 0 to D"
@@ -85,6 +81,7 @@ pub record FirstEdgesAlone (call : Call) (held : Run) (n : ℕ) (ends : List ℕ
 
 -- What demand 3 asks of the call on one list, lent these colour places.
 pub record Met (call : Call) (held : Run) (n : ℕ) (ends colors : List ℕ) : Type 0 where
+  -- "refuses none"
   pub accepts : Accepted (call n ends colors .report)
   pub accurate : Accurate n ends (call n ends colors .colors)
   -- "for every k from 0 to the number of edges"

@@ -9,6 +9,7 @@ use Rattle.graph.specs.Edges.{edgeCount, edgesAt, degree}
 use Rattle.graph.specs.EdgeLaws.{at-edge}
 use Rattle.graph.specs.CountLaws.{degree-bound}
 use Rattle.graph.specs.CheckLaws.{answered-accepted, written-accepted}
+use Rattle.graph.specs.Report.{Accepted}
 use Rattle.graph.specs.Color.{daysOf, colored}
 use Rattle.graph.specs.Colored.{noColor, colorOf, smallestFreeAt}
 use Rattle.vizing.specs.MisraGries.{held, misraGriesChecks, misraGries}
@@ -16,7 +17,7 @@ use Rattle.graph.specs.ColoredLaws.{color-read, color-take, smallest-free-bound
 use Rattle.vizing.specs.LaterEdges.{held-length, held-uncolored}
 use Rattle.vizing.specs.FirstEdges.{edge-count-take, held-take}
 use Rattle.vizing.specs.Simple.{Incident}
-use Rattle.vizing.specs.Demand3.{maxDegree, degree-max, max-degree-bound, Admitted, Accepted, Accurate, FirstEdgesAlone, Demand3}
+use Rattle.vizing.specs.Demand3.{maxDegree, degree-max, max-degree-bound, Admitted, Accurate, FirstEdgesAlone, Demand3}
 use Rattle.vizing.specs.Checks.{checks-pass, admitted-first}
 use Rattle.vizing.specs.Palette.{degree-palette}
 use Rattle.vizing.specs.Step.{Invariant}

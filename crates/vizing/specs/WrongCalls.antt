@@ -6,10 +6,10 @@ use mathlib.Core.List.{List, [], _∷_, _++_}
 use native.Mathlib.Omega.{arith}
 use lib.ListN.{getD, take, replicate}
 use Rattle.graph.specs.Edges.{edgeCount, firstEnd, secondEnd}
-use Rattle.graph.specs.Report.{accepted, refused}
+use Rattle.graph.specs.Report.{accepted, refused, Accepted}
 use Rattle.graph.specs.Colored.{noColor, colorOf}
 use Rattle.vizing.specs.MisraGries.{held}
-use Rattle.vizing.specs.Demand3.{maxDegree, Accurate, Accepted, Call, Demand3}
+use Rattle.vizing.specs.Demand3.{maxDegree, Accurate, Call, Demand3}
 use Rattle.vizing.specs.Demand3Examples.{triangle, listP13, triangle-admitted, triangle-max-degree, p13-admitted, p13-max-degree, runs}
 use Rattle.vizing.specs.Theorem.{left-over}
 
@@ -18,7 +18,7 @@ use Rattle.vizing.specs.Theorem.{left-over}
 abbrev pub refusesAll : ℕ → Call
 refusesAll number n ends colors = record { report = refused number; colors = colors }
 
-refused-not-accepted : (number : ℕ) → Accepted (refused number) → ⊥
+refused-not-accepted : (number : ℕ) → Accepted {A = ℕ} (refused number) → ⊥
 refused-not-accepted number (days, e) = let z : _≡_ {A = ℕ} 0 1 = cc in omega arith
 
 -- Acceptance fails.
