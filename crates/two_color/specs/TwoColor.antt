@@ -30,7 +30,8 @@ pub record ProofPrinter (n : ℕ) (ends lent : List ℕ) (report : Report ℕ) (
   pub cannot : Passed n ends → length lent ≡ n → OddClosedWalk ends (edgeCount ends) → report ≡ refused 8
   -- all else that passes them is accepted.
   pub answers : Passed n ends → length lent ≡ n → (report ≡ refused 8) ⊎ Accepted report
-  -- Where the call accepts, the ends of every edge have different colours,
+  -- Where the call accepts, every colour is 0 or 1, the ends of every edge have different ones,
+  pub two : (days : ℕ) → report ≡ accepted days → (v : ℕ) → v < n → getD colors v 0 ≤ 1
   pub differ : (days : ℕ) → report ≡ accepted days → (k : ℕ) → k < edgeCount ends → getD colors (firstEnd ends k) 0 ≢ getD colors (secondEnd ends k) 0
   -- and the lowest node of each component, from which no walk leads to a lower one, has 1.
   pub lowest : (days : ℕ) → report ≡ accepted days → (v : ℕ) → v < n → ((u l : ℕ) → Walk ends (edgeCount ends) v u l → v ≤ u) → getD colors v 0 ≡ 1

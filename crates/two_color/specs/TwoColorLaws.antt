@@ -162,6 +162,7 @@ module _ (n : ℕ) (ends lent : List ℕ) where
       no = says-no answer;
       cannot = λ h l. cannot-be answer (passed-input h l);
       answers = λ h l. answers-one answer (passed-input h l);
+      two = λ days e v h. omega (arith, accepts answer days e .at v h, side-color-bound ends (edgeCount ends) v);
       differ = λ days e k h q.
           let s = accepts answer days e in
           let i = passed-inside n ends (s .passed) k h in

@@ -1,0 +1,3 @@
+-- What the callers rely on, and that the calls' contracts give it.
+pub mod Reliance
+pub mod RelianceLaws

@@ -1,0 +1,76 @@
+-- What each caller relies on, in its own words, of a call's report and of its slice afterwards.
+use Prim.Native.Nat.{ℕ, _<_, _≤_}
+use mathlib.Core.Path.{_≡_}
+use mathlib.Core.Logic.{_⊎_, _≢_}
+use mathlib.Core.List.{List}
+use mathlib.Core.Bool.{Bool}
+use lib.ListN.{length, getD}
+use Rattle.graph.specs.Report.{Report, accepted, refused, Accepted}
+use Rattle.graph.specs.CheckLaws.{Passed}
+use Rattle.graph.specs.Edges.{edgeCount, firstEnd, secondEnd}
+use Rattle.graph.specs.EdgeLaws.{At}
+use Rattle.graph.specs.Colored.{noColor, colorOf}
+use Rattle.vizing.specs.Demand3.{Admitted}
+
+-- ---- the date table
+
+-- Clubs are nodes, matches are edges, days are colours.
+pub record NoClubTwiceOnADay (clubs : ℕ) (matches lent : List ℕ) (report : Report ℕ) (days : List ℕ) : Type 0 where
+  -- Every admitted list of matches is accepted;
+  pub accepts : Admitted clubs matches → length lent ≡ edgeCount matches → Accepted report
+  -- then every match has a day,
+  pub dated : (count : ℕ) → report ≡ accepted count → (k : ℕ) → k < edgeCount matches → colorOf days k ≢ noColor
+  -- and two matches of one club have different days.
+  pub once : (count : ℕ) → report ≡ accepted count → (i j club : ℕ) → i < edgeCount matches → j < edgeCount matches → i ≢ j → At matches i club → At matches j club → colorOf days i ≢ colorOf days j
+
+-- ---- the holiday lookup
+
+-- Lent a place for each item, and a preset for each.
+abbrev pub Lent : ℕ → List ℕ → Type 0
+Lent items lent = length lent ≡ items
+
+abbrev pub LentBoth : ℕ → List ℕ → List ℕ → Type 0
+LentBoth items presets lent = (length presets ≡ items) × (length lent ≡ items)
+
+-- Items are nodes or edges.
+pub record NoPresetMoved (n : ℕ) (ends : List ℕ) (items : ℕ) (presets lent : List ℕ) (report : Report ℕ) (colors : List ℕ) : Type 0 where
+  -- Whatever passes the checks is accepted,
+  pub accepts : Passed n ends → LentBoth items presets lent → Accepted report
+  -- and then an item that came with a colour has it still.
+  pub kept : (days : ℕ) → report ≡ accepted days → (k : ℕ) → k < items → colorOf presets k ≢ noColor → colorOf colors k ≡ colorOf presets k
+
+-- ---- the page grid
+
+-- Boxes are nodes: the two ends of an edge touch.
+pub record TouchingNodesDiffer (n : ℕ) (ends presets : List ℕ) (Sized : Type 0) (report : Report ℕ) (colors : List ℕ) : Type 0 where
+  pub accepts : Passed n ends → Sized → Accepted report
+  pub colored : (days : ℕ) → report ≡ accepted days → (v : ℕ) → v < n → colorOf colors v ≢ noColor
+  pub differ : (days : ℕ) → report ≡ accepted days → (k : ℕ) → k < edgeCount ends → firstEnd ends k ≢ secondEnd ends k
+      → (colorOf presets (firstEnd ends k) ≡ noColor) ⊎ (colorOf presets (secondEnd ends k) ≡ noColor) → colorOf colors (firstEnd ends k) ≢ colorOf colors (secondEnd ends k)
+
+-- Boxes are edges: two edges touch that share an end.
+pub record TouchingEdgesDiffer (n : ℕ) (ends presets : List ℕ) (Sized : Type 0) (report : Report ℕ) (colors : List ℕ) : Type 0 where
+  pub accepts : Passed n ends → Sized → Accepted report
+  pub colored : (days : ℕ) → report ≡ accepted days → (k : ℕ) → k < edgeCount ends → colorOf colors k ≢ noColor
+  pub differ : (days : ℕ) → report ≡ accepted days → (j k v : ℕ) → j < edgeCount ends → k < edgeCount ends → j ≢ k → At ends j v → At ends k v
+      → (colorOf presets j ≡ noColor) ⊎ (colorOf presets k ≡ noColor) → colorOf colors j ≢ colorOf colors k
+
+-- ---- the proof printer
+
+-- An assignment of two values to the nodes that differs along every edge.
+abbrev pub DiffersAlongEveryEdge : List ℕ → (ℕ → Bool) → Type 0
+DiffersAlongEveryEdge ends value = (k : ℕ) → k < edgeCount ends → value (firstEnd ends k) ≢ value (secondEnd ends k)
+
+-- There is none.
+abbrev pub NoAssignment : List ℕ → Type 0
+NoAssignment ends = (value : ℕ → Bool) → DiffersAlongEveryEdge ends value → ⊥
+
+pub record TwoInkPasses (n : ℕ) (ends lent : List ℕ) (report : Report ℕ) (passes : List ℕ) : Type 0 where
+  -- A no is said only where there is no assignment,
+  pub no : report ≡ refused 8 → NoAssignment ends
+  -- and of what passes the checks, wherever there is none;
+  pub cannot : Passed n ends → length lent ≡ n → NoAssignment ends → report ≡ refused 8
+  -- a yes is said wherever there is one,
+  pub can : Passed n ends → length lent ≡ n → (value : ℕ → Bool) → DiffersAlongEveryEdge ends value → Accepted report
+  -- and differs along every edge.
+  pub yes : (days : ℕ) → report ≡ accepted days → (k : ℕ) → k < edgeCount ends → getD passes (firstEnd ends k) 0 ≢ getD passes (secondEnd ends k) 0

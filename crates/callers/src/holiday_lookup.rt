@@ -1,0 +1,53 @@
+// The holiday lookup: no preset moved, of nodes and of edges, by every strategy.
+ghost use mathlib.Core.Path.{_≡_};
+ghost use Rattle.graph.specs.Report.{reportOfColoring};
+ghost use Rattle.graph.specs.Edges.{edgeCount};
+ghost use Rattle.greedy.specs.Degree.{degreeColors};
+ghost use Rattle.greedy.specs.Call.{ruleOf, greedyNodes, greedyEdges};
+ghost use Rattle.callers.specs.Reliance.{NoPresetMoved};
+use wulgranite::Coloring;
+use wulgranite::ColoringStrategy;
+use wulgranite::greedy_edge_color_with_coloring_strategy;
+use wulgranite::greedy_node_color_with_coloring_strategy;
+use wulgranite::greedy_node_color_with_preset_colors;
+
+pub fn no_preset_node_moved(
+    n: usize,
+    ends: &[u16],
+    presets: &[u16],
+    strategy: ColoringStrategy,
+    colors: &mut [u16],
+) -> Coloring
+    ensures { λ r. ⌜ reportOfColoring r ≡ greedyNodes (ruleOf strategy) n (now (ends .entry)) (now (presets .entry)) (now (colors .entry)) .report ⌝ }
+    ensures { λ _. ⌜ now (colors .exit) ≡ greedyNodes (ruleOf strategy) n (now (ends .entry)) (now (presets .entry)) (now (colors .entry)) .colors ⌝ }
+    ensures relied { λ r. ⌜ NoPresetMoved n (now (ends .entry)) n (now (presets .entry)) (now (colors .entry)) (reportOfColoring r) (now (colors .exit)) ⌝ }
+{
+    greedy_node_color_with_coloring_strategy(n, ends, presets, strategy, colors)
+}
+
+pub fn no_preset_node_moved_by_degree(
+    n: usize,
+    ends: &[u16],
+    presets: &[u16],
+    colors: &mut [u16],
+) -> Coloring
+    ensures { λ r. ⌜ reportOfColoring r ≡ greedyNodes degreeColors n (now (ends .entry)) (now (presets .entry)) (now (colors .entry)) .report ⌝ }
+    ensures { λ _. ⌜ now (colors .exit) ≡ greedyNodes degreeColors n (now (ends .entry)) (now (presets .entry)) (now (colors .entry)) .colors ⌝ }
+    ensures relied { λ r. ⌜ NoPresetMoved n (now (ends .entry)) n (now (presets .entry)) (now (colors .entry)) (reportOfColoring r) (now (colors .exit)) ⌝ }
+{
+    greedy_node_color_with_preset_colors(n, ends, presets, colors)
+}
+
+pub fn no_preset_edge_moved(
+    n: usize,
+    ends: &[u16],
+    presets: &[u16],
+    strategy: ColoringStrategy,
+    colors: &mut [u16],
+) -> Coloring
+    ensures { λ r. ⌜ reportOfColoring r ≡ greedyEdges (ruleOf strategy) n (now (ends .entry)) (now (presets .entry)) (now (colors .entry)) .report ⌝ }
+    ensures { λ _. ⌜ now (colors .exit) ≡ greedyEdges (ruleOf strategy) n (now (ends .entry)) (now (presets .entry)) (now (colors .entry)) .colors ⌝ }
+    ensures relied { λ r. ⌜ NoPresetMoved n (now (ends .entry)) (edgeCount (now (ends .entry))) (now (presets .entry)) (now (colors .entry)) (reportOfColoring r) (now (colors .exit)) ⌝ }
+{
+    greedy_edge_color_with_coloring_strategy(n, ends, presets, strategy, colors)
+}
