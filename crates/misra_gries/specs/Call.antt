@@ -1,18 +1,12 @@
--- What the call is held to: the outcome once the input's checks pass, and demand 3 of one call's report and slice.
+-- What the call is held to besides its outcome: demand 3, of one call's report and slice.
 use Prim.Native.Nat.{ℕ, _≤_}
 use mathlib.Core.Path.{_≡_}
-use mathlib.Core.List.{List, [], _∷_}
-use lib.ListN.{length, take}
+use mathlib.Core.List.{List}
+use lib.ListN.{length}
 use Rattle.graph.specs.Report.{Report, accepted, Accepted}
-use Rattle.graph.specs.Check.{_gives_}
 use Rattle.graph.specs.Edges.{edgeCount}
-use Rattle.graph.specs.Color.{Outcome, colored}
-use Rattle.vizing.specs.MisraGries.{held, hasDoubleEdge, misraGries}
+use Rattle.vizing.specs.MisraGries.{held, misraGries}
 use Rattle.vizing.specs.Demand3.{Admitted, Accurate, FirstEdgesAlone}
-
--- The outcome where all checks but 7 pass.
-unfoldable pub lastOutcome : ℕ → List ℕ → List ℕ → Outcome
-lastOutcome n ends lent = let m = edgeCount ends in colored ((hasDoubleEdge ends m gives 7) ∷ []) lent (take m (held n ends m))
 
 -- Demand 3, of a call on an admitted list with a place for each edge: it is accepted; colours are 0 to D, edges sharing an end
 -- differ, every node has one of the D + 1 left over; and for every k the call on the first k edges gives what the run holds after its kth edge.

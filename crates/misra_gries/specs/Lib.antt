@@ -1,6 +1,4 @@
--- Misra-Gries edge colouring in code: the checks, the step and its parts, the tally, the run, the call's answers.
-pub mod Loops
-pub mod DoubleEdges
+-- Misra-Gries edge colouring in code: the step and its parts, the tally, the run, the call's answers.
 pub mod Front
 pub mod MarkedFan
 pub mod MarkedFanLaws

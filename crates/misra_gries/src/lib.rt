@@ -1,6 +1,6 @@
 // Misra-Gries edge colouring: each edge a colour from 0 to D, edges that share an end different ones.
 ghost use mathlib.Core.Path.{_≡_};
-ghost use mathlib.Core.Bool.{cond, false};
+ghost use mathlib.Core.Bool.{cond};
 ghost use Prim.Native.Nat.{_+_, _≤_};
 ghost use lib.Dec.{eqb};
 ghost use lib.ListN.{length, take};
@@ -9,11 +9,9 @@ ghost use Rattle.graph.specs.CheckLaws.{Passed};
 ghost use Rattle.graph.specs.Edges.{edgeCount};
 ghost use Rattle.graph.specs.Color.{daysOf};
 ghost use Rattle.graph.specs.StretchLaws.{Table};
-ghost use Rattle.vizing.specs.MisraGries.{hasLoop, held, misraGries};
+ghost use Rattle.vizing.specs.MisraGries.{held, misraGries};
 ghost use Rattle.vizing.specs.Demand3.{Admitted};
-ghost use Rattle.misra_gries.specs.Call.{lastOutcome, DateTable};
-use checks::has_double_edge;
-use checks::has_loop;
+ghost use Rattle.misra_gries.specs.Call.{DateTable};
 use edge_table::EdgeTable;
 use graph::Checked;
 use graph::Color;
@@ -23,9 +21,9 @@ use graph::check_graph;
 use graph::copy_colors;
 use incidence::incidence_front;
 use run::run;
+use simple_graph::check_simple;
 use tally::Tally;
 
-mod checks;
 mod fan;
 mod new_colors;
 mod path;
@@ -68,20 +66,16 @@ fn color_simple(
     Coloring::Accepted { days }
 }
 
-// A graph without loops that passed the checks, and a place for each edge.
-fn color_checked(n: usize, ends: &[u16], colors: &mut [u16]) -> Coloring
-    requires { ⌜ Passed n (now ends) ⌝ }
-    requires { ⌜ hasLoop (now ends) (edgeCount (now ends)) ≡ false ⌝ }
+// The same, the incidence table made first.
+fn color_admitted(n: usize, ends: &[u16], colors: &mut [u16]) -> Coloring
+    requires { ⌜ Passed n (now ends) × Admitted n (now ends) ⌝ }
     requires { ⌜ length (now colors) ≡ edgeCount (now ends) ⌝ }
-    ensures { λ r. ⌜ reportOfColoring r ≡ lastOutcome n (now (ends .entry)) (now (colors .entry)) .report ⌝ }
-    ensures { λ _. ⌜ now (colors .exit) ≡ lastOutcome n (now (ends .entry)) (now (colors .entry)) .colors ⌝ }
+    ensures { λ r. ⌜ reportOfColoring r ≡ accepted (daysOf (take (edgeCount (now (ends .entry))) (held n (now (ends .entry)) (edgeCount (now (ends .entry)))))) ⌝ }
+    ensures { λ _. ⌜ now (colors .exit) ≡ take (edgeCount (now (ends .entry))) (held n (now (ends .entry)) (edgeCount (now (ends .entry)))) ⌝ }
 {
     let mut starts = [0u16; 513];
     let mut entries = [0u16; 8192];
     incidence_front(n, ends, &mut starts, &mut entries);
-    if has_double_edge(n, ends, &starts, &entries) {
-        return Coloring::Refused(Refusal::DoubleEdge);
-    }
     color_simple(n, ends, &starts, &entries, colors)
 }
 
@@ -99,10 +93,12 @@ pub fn misra_gries_edge_color(n: usize, ends: &[u16], colors: &mut [u16]) -> Col
             if colors.len() != graph.edges {
                 return Coloring::Refused(Refusal::WrongLength);
             }
-            if has_loop(ends) {
-                return Coloring::Refused(Refusal::Loop);
+            match check_simple(n, ends) {
+                Checked::Refused(fault) => {
+                    return Coloring::Refused(fault);
+                }
+                Checked::Accepted(simple) => color_admitted(n, ends, colors),
             }
-            color_checked(n, ends, colors)
         }
     }
 }

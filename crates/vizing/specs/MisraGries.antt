@@ -162,11 +162,13 @@ sameEnds ends i j =
 unfoldable pub hasDoubleEdge : List ℕ → ℕ → Bool
 hasDoubleEdge ends m = any (λ j. any (λ i. sameEnds ends i j) j) m
 
+-- "6 if a loop exists, 7 if a double edge exists"
+abbrev pub simpleChecks : List ℕ → List Check
+simpleChecks ends = (hasLoop ends (edgeCount ends) gives 6) ∷ (hasDoubleEdge ends (edgeCount ends) gives 7) ∷ []
+
 -- "misra_gries_edge_color: graph checks, 5 unless the colour slice has length m, 6 if a loop exists, 7 if a double edge exists"
 unfoldable pub misraGriesChecks : ℕ → List ℕ → List ℕ → List Check
-misraGriesChecks n ends colors =
-    let m = edgeCount ends in
-    graphChecks n ends ++ lengthCheck (length colors) m ∷ (hasLoop ends m gives 6) ∷ (hasDoubleEdge ends m gives 7) ∷ []
+misraGriesChecks n ends colors = graphChecks n ends ++ lengthCheck (length colors) (edgeCount ends) ∷ simpleChecks ends
 
 -- The first m colours of the working list after the last edge.
 unfoldable pub misraGries : ℕ → List ℕ → List ℕ → Outcome

@@ -16,6 +16,7 @@ enum Report {
     Days(usize),
     Total(usize),
     Pairs(usize),
+    File(u16, usize),
     Refused(u8),
 }
 
@@ -25,6 +26,7 @@ impl Display for Report {
             Report::Days(days) => write!(f, "days {days}"),
             Report::Total(total) => write!(f, "total {total}"),
             Report::Pairs(pairs) => write!(f, "pairs {pairs}"),
+            Report::File(nodes, edges) => write!(f, "nodes {nodes} edges {edges} tags 3"),
             Report::Refused(number) => write!(f, "refused {number}"),
         }
     }
@@ -283,6 +285,24 @@ fn misra_gries(graph: &Graph, colors: &mut Lent<u16>) -> Report {
     )
 }
 
+/// What the program prints for a file, given the Rust's colours.
+fn matchdays(file: &[u8]) -> String {
+    let Some((n, ends)) = rules::read_file(file) else {
+        return "refused 10\n".to_string();
+    };
+    let graph = Graph::new(n.into(), ends);
+    let mut colors = Lent::new(graph.m(), rules::lent_number);
+    let report = misra_gries(&graph, &mut colors);
+    let mut text = format!("{report}\n");
+    if let Report::Days(_) = report {
+        for (k, color) in colors.now.iter().enumerate() {
+            let (u, v) = (graph.ends[2 * k], graph.ends[2 * k + 1]);
+            text.push_str(&format!("{k} {u} {v} {color}\n"));
+        }
+    }
+    text
+}
+
 /// The words of one line; anything but the format of README.md is a fault of the case file and ends the program.
 struct Words<'a> {
     line: usize,
@@ -306,7 +326,7 @@ impl<'a> Words<'a> {
         number.unwrap_or_else(|| panic!("line {}: {word:?} is no number of this kind", self.line))
     }
 
-    fn list(&mut self) -> Vec<u16> {
+    fn list<T: FromStr>(&mut self) -> Vec<T> {
         let length: usize = self.number();
         (0..length).map(|_| self.number()).collect()
     }
@@ -338,6 +358,7 @@ fn main() {
 
     let mut graph = Graph::new(0, Vec::new());
     let mut presets: Vec<u16> = Vec::new();
+    let mut file: Vec<u8> = Vec::new();
     for (i, line) in cases.lines().enumerate() {
         let mut words = Words {
             line: i + 1,
@@ -354,6 +375,33 @@ fn main() {
             "presets" => {
                 presets = words.list();
                 words.end();
+                continue;
+            }
+            "file" => {
+                file = words.list();
+                words.end();
+                continue;
+            }
+            "read_graph_file" => {
+                let mut slice = words.lent();
+                words.end();
+                let report = match rules::read_file(&file) {
+                    None => Report::Refused(10),
+                    Some((_, ends)) if slice.now.len() < ends.len() => Report::Refused(5),
+                    Some((n, ends)) => {
+                        slice.now[..ends.len()].copy_from_slice(&ends);
+                        Report::File(n, ends.len() / 2)
+                    }
+                };
+                writeln!(out, "{name} {report}: {slice}").unwrap();
+                continue;
+            }
+            "matchdays" => {
+                let length: usize = words.number();
+                words.end();
+                let text = matchdays(&file);
+                let shown = &text[..length.min(text.len())];
+                writeln!(out, "{name} length {}:\n{shown}", text.len()).unwrap();
                 continue;
             }
             "incidence" => {

@@ -1,5 +1,5 @@
 //! Writes the case file, the same bytes each time: `cases FAMILY ..` with the families incidence, two_color,
-//! line_graph, node_color, edge_color, misra_gries. All cases are made and only then sifted by family, so switching a
+//! line_graph, node_color, edge_color, misra_gries, file. All cases are made and only then sifted by family, so switching a
 //! family on alters no line of another.
 
 use std::io::Write;
@@ -14,6 +14,7 @@ enum Family {
     NodeColor,
     EdgeColor,
     MisraGries,
+    File,
 }
 
 impl Family {
@@ -25,6 +26,7 @@ impl Family {
             "node_color" => Family::NodeColor,
             "edge_color" => Family::EdgeColor,
             "misra_gries" => Family::MisraGries,
+            "file" => Family::File,
             _ => return None,
         })
     }
@@ -937,6 +939,115 @@ fn random_graphs(blocks: &mut Vec<Block>) {
     }
 }
 
+/// A file, and how many numbers the reader and how many bytes the text are lent.
+struct FileCase {
+    bytes: Vec<u8>,
+    lists: Vec<usize>,
+    texts: Vec<usize>,
+}
+
+impl FileCase {
+    /// As much as is needed.
+    fn new(bytes: Vec<u8>) -> FileCase {
+        FileCase {
+            lists: vec![8192],
+            texts: vec![99000],
+            bytes,
+        }
+    }
+}
+
+/// Files that are right, and each way in which one can be broken.
+fn files(random: &mut Random) -> Vec<FileCase> {
+    let example = rules::file_bytes(4, &[0, 1, 1, 2, 0, 2, 2, 3]);
+    let mut cases = vec![FileCase {
+        // Too short by one, by all, just enough, too long.
+        lists: vec![8, 7, 0, 9, 8400],
+        texts: vec![39, 38, 0, 1, 7, 12, 40, 99000],
+        bytes: example.clone(),
+    }];
+    let mut add = |bytes: Vec<u8>| cases.push(FileCase::new(bytes));
+    // Cut at every place, the empty file first.
+    for length in 0..example.len() {
+        add(example[..length].to_vec());
+    }
+    // A byte too many, or a field.
+    for more in [
+        &[0][..],
+        &[1],
+        &[2],
+        &[3, 0, 0],
+        &[2, 0, 0],
+        &[1, 2, 0, 4, 0],
+        &[3, 8, 0, 0, 0, 1, 0, 2, 0, 0, 0],
+        &[0; 4],
+    ] {
+        add([&example, more].concat());
+    }
+    // Every byte of the two heads, and n, changed.
+    for place in 0..8 {
+        for change in [1, 2, 3, 4, 16, 128, 255] {
+            let mut bytes = example.clone();
+            bytes[place] = bytes[place].wrapping_add(change);
+            add(bytes);
+        }
+    }
+    // Tags in the wrong order, twice, missing; fields without bytes.
+    let (first, second) = example.split_at(5);
+    for parts in [
+        &[second, first][..],
+        &[first, first, second],
+        &[first, second, second],
+        &[first],
+        &[second],
+        &[first, first],
+        &[second, second],
+        &[first, &[2, 0, 0]],
+        &[&[1, 0, 0], second],
+        &[&[1, 3, 0, 4, 0, 0], second],
+        &[&[0, 0, 0], first, second],
+    ] {
+        add(parts.concat());
+    }
+    // A length that is no multiple of 4, the bytes being there.
+    for more in 1..8 {
+        let mut bytes = rules::file_bytes(4, &[0, 1, 1, 2]);
+        bytes[6] += more;
+        bytes.extend(vec![0; more.into()]);
+        add(bytes);
+    }
+    // Graphs that the colouring refuses: n 513, end n, a loop, a double edge; and those at the limits.
+    for (n, ends) in [
+        (513, vec![0, 1]),
+        (512, vec![511, 0]),
+        (65535, vec![]),
+        (0, vec![]),
+        (0, vec![0, 0]),
+        (3, vec![0, 1, 1, 3]),
+        (3, vec![0, 1, 2, 2]),
+        (3, vec![0, 1, 1, 2, 1, 0]),
+        (2, vec![65535, 0]),
+    ] {
+        add(rules::file_bytes(n, &ends));
+    }
+    // The most edges, one more, and twice as many; a file of 16,393 bytes.
+    let most = flat(&mixed(random, &bipartite(64, 64)));
+    add(rules::file_bytes(128, &most));
+    add([&rules::file_bytes(128, &most)[..], &[0]].concat());
+    add(rules::file_bytes(128, &[&most[..], &[0, 1]].concat()));
+    add(rules::file_bytes(128, &[&most[..], &[0; 2]].concat()));
+    add(rules::file_bytes(128, &[&most[..], &most].concat()));
+    for n in [2, 8, 20, 91] {
+        add(rules::file_bytes(n, &flat(&mixed(random, &complete(n)))));
+    }
+    for i in 0..40 {
+        let n = 2 + random.node(20);
+        let edges = simple(random, n, i);
+        add(rules::file_bytes(n, &flat(&edges)));
+    }
+    cases
+}
+
 fn main() {
     let chosen: Vec<Family> = std::env::args()
         .skip(1)
@@ -975,6 +1086,17 @@ fn main() {
                     writeln!(out, "{text}").unwrap();
                 }
                 Line::Call { .. } => {}
+            }
+        }
+    }
+    if chosen.contains(&Family::File) {
+        for case in files(random) {
+            writeln!(out, "file {}", words(&case.bytes)).unwrap();
+            for length in case.lists {
+                writeln!(out, "read_graph_file {length}").unwrap();
+            }
+            for length in case.texts {
+                writeln!(out, "matchdays {length}").unwrap();
             }
         }
     }

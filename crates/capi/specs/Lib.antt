@@ -1,0 +1,5 @@
+-- What a call of the C interface answers.
+pub mod Answer
+pub mod AnswerLaws
+pub mod Strategy
+pub mod StrategyLaws

@@ -1,0 +1,4 @@
+-- The checks for loops and double edges: the search for each, and the call's answers.
+pub mod Loops
+pub mod DoubleEdges
+pub mod Simple

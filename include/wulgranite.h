@@ -1,0 +1,134 @@
+/*
+ * Wulgranite: graph colouring for calendars. The interface of target/staticlib/libcapi.a (`rt staticlib capi`; x86-64 Linux).
+ * C99 or later, and C++.
+ *
+ * A graph is a node count n and a list of ends: edge k joins the nodes ends[2k] and ends[2k + 1]; ends_len counts numbers, not edges.
+ *
+ * Every call returns WG_ACCEPTED (0) or the number of the first check that refuses, in the order in which they are given below. Where
+ * a call refuses, nothing is changed: no lent list, and no number behind a pointer. No call keeps a pointer, allocates, prints or
+ * fails in another way; a call may use up to about 1 MB of stack. Calls may run at the same time on different memory.
+ *
+ * What a caller keeps:
+ *  - A list is a pointer and a count of elements: the pointer is aligned for its type, and that many elements can be read there (and
+ *    written, unless it is const) and have been given values, those that the call is to fill too.
+ *  - What a call may write (a list that is not const, the number behind a size_t pointer) overlaps nothing else that the call is
+ *    handed, and nothing else reads or writes it during the call. Const lists may overlap one another.
+ *  - The pointer of a list of no elements is not read: NULL will do. A size_t pointer is never NULL.
+ */
+#ifndef WULGRANITE_H
+#define WULGRANITE_H
+
+#include <stddef.h>
+#include <stdint.h>
+
+#ifdef __cplusplus
+extern "C" {
+#endif
+
+enum {
+    WG_MAX_NODES = 512,
+    WG_MAX_EDGES = 4096,
+    WG_NONE = 65535 /* in a list of presets: none */
+};
+
+/* What a call returns. */
+enum {
+    WG_ACCEPTED = 0,
+    WG_TOO_MANY_NODES = 1,   /* n is above WG_MAX_NODES */
+    WG_ODD_ENDS = 2,         /* the list of ends has odd length */
+    WG_TOO_MANY_ENDS = 3,    /* it has more than two ends for each of WG_MAX_EDGES edges */
+    WG_END_OUTSIDE = 4,      /* an end is n or more */
+    WG_WRONG_LENGTH = 5,     /* a lent list has not the length that the call names */
+    WG_LOOP = 6,             /* an edge joins a node to itself */
+    WG_DOUBLE_EDGE = 7,      /* two edges join the same nodes */
+    WG_ODD_CLOSED_WALK = 8,  /* two colours do not suffice */
+    WG_SHORT_LIST = 9,       /* the lent list is too short for the pairs */
+    WG_BAD_FILE = 10,        /* the bytes are no graph file */
+    WG_UNKNOWN_STRATEGY = 255
+};
+
+/* Strategies of the greedy colourings. */
+enum {
+    WG_DEGREE = 0,
+    WG_SATURATION = 1,
+    WG_INDEPENDENT_SET = 2
+};
+
+/*
+ * The incidence table: starts gets n + 1 numbers, entries the edges of node 0, of node 1, and so on; node v has the entries from
+ * starts[v] on, up to starts[v + 1]. *total is how many entries were written: a loop stands once, and the entries beyond stay.
+ * Refuses by 1, 2, 3, 4; 5 unless starts_len is n + 1 and entries_len is ends_len.
+ * On a refusal starts, entries and *total are unchanged.
+ */
+uint32_t wg_incidence(size_t n, const uint16_t *ends, size_t ends_len, uint16_t *starts, size_t starts_len,
+                      uint16_t *entries, size_t entries_len, size_t *total);
+
+/*
+ * Two colours for the nodes: the lowest node of each component gets 1, neighbours the other of 0 and 1. *days is the greatest colour
+ * plus one, or 0 where there is no node.
+ * Refuses by 1, 2, 3, 4; 5 unless colors_len is n; 8 where there is a closed walk of odd length, and only there.
+ * On a refusal colors and *days are unchanged.
+ */
+uint32_t wg_two_color(size_t n, const uint16_t *ends, size_t ends_len, uint8_t *colors, size_t colors_len, size_t *days);
+
+/*
+ * Colours for the nodes so that neighbours differ: nodes with more edges first, each the smallest colour that no coloured neighbour
+ * has. *days is the greatest colour plus one, or 0 where there is no node.
+ * Refuses by 1, 2, 3, 4; 5 unless colors_len is n.
+ * On a refusal colors and *days are unchanged.
+ */
+uint32_t wg_greedy_node_color(size_t n, const uint16_t *ends, size_t ends_len, uint16_t *colors, size_t colors_len, size_t *days);
+
+/*
+ * The same around presets, a number for each node: its colour, which stays, or WG_NONE. Two equal presets side by side stay too.
+ * Refuses by 1, 2, 3, 4; 5 unless presets_len and colors_len are n.
+ * On a refusal colors and *days are unchanged.
+ */
+uint32_t wg_greedy_node_color_with_preset_colors(size_t n, const uint16_t *ends, size_t ends_len,
+                      const uint16_t *presets, size_t presets_len, uint16_t *colors, size_t colors_len, size_t *days);
+
+/*
+ * The same by a strategy: WG_DEGREE, WG_SATURATION or WG_INDEPENDENT_SET.
+ * Refuses by 1, 2, 3, 4; 5 unless presets_len and colors_len are n; 255 where strategy is another number.
+ * On a refusal colors and *days are unchanged.
+ */
+uint32_t wg_greedy_node_color_with_coloring_strategy(size_t n, const uint16_t *ends, size_t ends_len,
+                      const uint16_t *presets, size_t presets_len, uint8_t strategy, uint16_t *colors, size_t colors_len, size_t *days);
+
+/*
+ * Colours for the edges so that edges that share an end differ, chosen as wg_greedy_node_color does. *days is the greatest colour plus
+ * one, or 0 where there is no edge.
+ * Refuses by 1, 2, 3, 4; 5 unless colors_len is the number of edges.
+ * On a refusal colors and *days are unchanged.
+ */
+uint32_t wg_greedy_edge_color(size_t n, const uint16_t *ends, size_t ends_len, uint16_t *colors, size_t colors_len, size_t *days);
+
+/*
+ * The same around presets, a number for each edge, and by a strategy.
+ * Refuses by 1, 2, 3, 4; 5 unless presets_len and colors_len are the number of edges; 255 where strategy is another number.
+ * On a refusal colors and *days are unchanged.
+ */
+uint32_t wg_greedy_edge_color_with_coloring_strategy(size_t n, const uint16_t *ends, size_t ends_len,
+                      const uint16_t *presets, size_t presets_len, uint8_t strategy, uint16_t *colors, size_t colors_len, size_t *days);
+
+/*
+ * The line list: for nodes rising, a pair of edge numbers for each two edges at the node, in the order of the incidence table. *pairs
+ * is how many; list gets two numbers for each, and those beyond stay.
+ * Refuses by 1, 2, 3, 4; 9 if list_len is less than two for each pair.
+ * On a refusal list and *pairs are unchanged.
+ */
+uint32_t wg_line_graph(size_t n, const uint16_t *ends, size_t ends_len, uint16_t *list, size_t list_len, size_t *pairs);
+
+/*
+ * Colours for the edges by Misra and Gries: where D is the most edges that a node has, each edge gets a colour from 0 to D, and edges
+ * that share an end differ. *days is the greatest colour plus one, or 0 where there is no edge.
+ * Refuses by 1, 2, 3, 4; 5 unless colors_len is the number of edges; 6 a loop; 7 a double edge.
+ * On a refusal colors and *days are unchanged.
+ */
+uint32_t wg_misra_gries_edge_color(size_t n, const uint16_t *ends, size_t ends_len, uint16_t *colors, size_t colors_len, size_t *days);
+
+#ifdef __cplusplus
+}
+#endif
+
+#endif

@@ -1,0 +1,424 @@
+//! Graph colouring for calendars, every function proved: safe functions over the static library.
+//!
+//! A graph is a node count `n`, at most [`MAX_NODES`], and a list of ends: edge k joins `ends[2 * k]` and
+//! `ends[2 * k + 1]`. A graph has at most [`MAX_EDGES`] edges. Colours are written into a slice that the caller lends;
+//! where a call refuses, the slice is as it was, and the refusal says why.
+//!
+//! ```
+//! // Four clubs, four matches: 0 against 1, 1 against 2, 0 against 2, 2 against 3.
+//! let matches = [0, 1, 1, 2, 0, 2, 2, 3];
+//! let mut days = [0; 4];
+//! assert_eq!(wulgranite::misra_gries_edge_color(4, &matches, &mut days), Ok(3));
+//! assert_eq!(days, [2, 1, 0, 2]);
+//! ```
+
+mod ffi;
+
+use std::fmt;
+
+/// The mark of what has no colour.
+pub const NONE: u16 = 65535;
+
+/// The most nodes of a graph.
+pub const MAX_NODES: usize = 512;
+
+/// The most edges of a graph.
+pub const MAX_EDGES: usize = 4096;
+
+/// The longest house file in bytes.
+pub const MAX_FILE: usize = 16392;
+
+/// What is wrong with an input.
+#[derive(Clone, Copy, Debug, PartialEq, Eq, Hash)]
+pub enum Refusal {
+    /// 1: there are more than 512 nodes.
+    TooManyNodes = 1,
+    /// 2: the end list has odd length.
+    OddEnds = 2,
+    /// 3: the end list has more than 8,192 numbers.
+    TooManyEnds = 3,
+    /// 4: an end is the node count or more.
+    EndOutside = 4,
+    /// 5: a lent slice has the wrong length.
+    WrongLength = 5,
+    /// 6: an edge has equal ends.
+    Loop = 6,
+    /// 7: two edges have the same ends.
+    DoubleEdge = 7,
+    /// 8: a closed walk of odd length exists.
+    OddClosedWalk = 8,
+    /// 9: the lent list is too short for the pairs.
+    ShortList = 9,
+    /// 10: the bytes are no house file.
+    BadFile = 10,
+}
+
+impl Refusal {
+    /// The number by which the refusal is known.
+    ///
+    /// ```
+    /// assert_eq!(wulgranite::Refusal::OddClosedWalk.number(), 8);
+    /// ```
+    pub fn number(self) -> u32 {
+        self as u32
+    }
+
+    fn of(number: u32) -> Refusal {
+        match number {
+            1 => Refusal::TooManyNodes,
+            2 => Refusal::OddEnds,
+            3 => Refusal::TooManyEnds,
+            4 => Refusal::EndOutside,
+            5 => Refusal::WrongLength,
+            6 => Refusal::Loop,
+            7 => Refusal::DoubleEdge,
+            8 => Refusal::OddClosedWalk,
+            9 => Refusal::ShortList,
+            10 => Refusal::BadFile,
+            _ => unreachable!("the library refuses by no such number: {number}"),
+        }
+    }
+}
+
+impl fmt::Display for Refusal {
+    fn fmt(&self, f: &mut fmt::Formatter) -> fmt::Result {
+        let why = match self {
+            Refusal::TooManyNodes => "there are more than 512 nodes",
+            Refusal::OddEnds => "the end list has odd length",
+            Refusal::TooManyEnds => "the end list has more than 8,192 numbers",
+            Refusal::EndOutside => "an end is the node count or more",
+            Refusal::WrongLength => "a lent slice has the wrong length",
+            Refusal::Loop => "an edge has equal ends",
+            Refusal::DoubleEdge => "two edges have the same ends",
+            Refusal::OddClosedWalk => "a closed walk of odd length exists",
+            Refusal::ShortList => "the lent list is too short for the pairs",
+            Refusal::BadFile => "the bytes are no house file",
+        };
+        write!(f, "refused {}: {why}", self.number())
+    }
+}
+
+impl std::error::Error for Refusal {}
+
+/// How the next node or edge of a greedy colouring is chosen.
+#[derive(Clone, Copy, Debug, PartialEq, Eq, Hash)]
+pub enum ColoringStrategy {
+    /// By falling degree.
+    Degree = 0,
+    /// By the number of different colours on the neighbours.
+    Saturation = 1,
+    /// Colour by colour, each on a greedily chosen set without neighbours.
+    IndependentSet = 2,
+}
+
+/// The values where the number is 0, else the refusal.
+fn answer<T>(number: u32, values: T) -> Result<T, Refusal> {
+    match number {
+        0 => Ok(values),
+        _ => Err(Refusal::of(number)),
+    }
+}
+
+/// Writes the incidence table: `n + 1` starts, and entries as many as there are ends. The answer is the total, the number
+/// of entries that count; the entries beyond it, one for each loop, are unchanged.
+///
+/// ```
+/// let (mut starts, mut entries) = ([0; 4], [0; 4]);
+/// assert_eq!(wulgranite::incidence(3, &[0, 1, 2, 0], &mut starts, &mut entries), Ok(4));
+/// assert_eq!((starts, entries), ([0, 2, 3, 4], [0, 1, 0, 1]));
+/// ```
+pub fn incidence(
+    n: usize,
+    ends: &[u16],
+    starts: &mut [u16],
+    entries: &mut [u16],
+) -> Result<usize, Refusal> {
+    let mut total = 0;
+    // SAFETY: pointers and lengths are those of slices, which don't overlap where one is `&mut`.
+    let number = unsafe {
+        ffi::wg_incidence(
+            n,
+            ends.as_ptr(),
+            ends.len(),
+            starts.as_mut_ptr(),
+            starts.len(),
+            entries.as_mut_ptr(),
+            entries.len(),
+            &mut total,
+        )
+    };
+    answer(number, total)
+}
+
+/// Gives each node 0 or 1 so that neighbours differ, or refuses by [`Refusal::OddClosedWalk`] where that can't be done.
+/// The lowest node of each component gets 1. The answer is the number of days.
+///
+/// ```
+/// use wulgranite::{two_color, Refusal};
+/// let mut colors = [0; 3];
+/// assert_eq!(two_color(3, &[1, 2], &mut colors), Ok(2));
+/// assert_eq!(colors, [1, 1, 0]);
+/// assert_eq!(two_color(3, &[0, 1, 1, 2, 0, 2], &mut colors), Err(Refusal::OddClosedWalk));
+/// ```
+pub fn two_color(n: usize, ends: &[u16], colors: &mut [u8]) -> Result<usize, Refusal> {
+    let mut days = 0;
+    // SAFETY: as above.
+    let number = unsafe {
+        ffi::wg_two_color(
+            n,
+            ends.as_ptr(),
+            ends.len(),
+            colors.as_mut_ptr(),
+            colors.len(),
+            &mut days,
+        )
+    };
+    answer(number, days)
+}
+
+/// Colours the nodes by [`ColoringStrategy::Degree`]; neighbours differ.
+///
+/// ```
+/// let mut colors = [0; 3];
+/// assert_eq!(wulgranite::greedy_node_color(3, &[0, 1, 0, 2], &mut colors), Ok(2));
+/// assert_eq!(colors, [0, 1, 1]);
+/// ```
+pub fn greedy_node_color(n: usize, ends: &[u16], colors: &mut [u16]) -> Result<usize, Refusal> {
+    let mut days = 0;
+    // SAFETY: as above.
+    let number = unsafe {
+        ffi::wg_greedy_node_color(
+            n,
+            ends.as_ptr(),
+            ends.len(),
+            colors.as_mut_ptr(),
+            colors.len(),
+            &mut days,
+        )
+    };
+    answer(number, days)
+}
+
+/// The same with presets, which stay: a preset of [`NONE`] is none.
+///
+/// ```
+/// use wulgranite::NONE;
+/// let mut colors = [0; 3];
+/// let presets = [1, NONE, NONE];
+/// assert_eq!(wulgranite::greedy_node_color_with_preset_colors(3, &[0, 1, 0, 2], &presets, &mut colors), Ok(2));
+/// assert_eq!(colors, [1, 0, 0]);
+/// ```
+pub fn greedy_node_color_with_preset_colors(
+    n: usize,
+    ends: &[u16],
+    presets: &[u16],
+    colors: &mut [u16],
+) -> Result<usize, Refusal> {
+    let mut days = 0;
+    // SAFETY: as above.
+    let number = unsafe {
+        ffi::wg_greedy_node_color_with_preset_colors(
+            n,
+            ends.as_ptr(),
+            ends.len(),
+            presets.as_ptr(),
+            presets.len(),
+            colors.as_mut_ptr(),
+            colors.len(),
+            &mut days,
+        )
+    };
+    answer(number, days)
+}
+
+/// The same by any strategy.
+///
+/// ```
+/// use wulgranite::{ColoringStrategy, NONE};
+/// let mut colors = [0; 4];
+/// let path = [0, 1, 1, 2, 2, 3];
+/// let strategy = ColoringStrategy::Saturation;
+/// assert_eq!(
+///     wulgranite::greedy_node_color_with_coloring_strategy(4, &path, &[NONE; 4], strategy, &mut colors),
+///     Ok(2)
+/// );
+/// assert_eq!(colors, [1, 0, 1, 0]);
+/// ```
+pub fn greedy_node_color_with_coloring_strategy(
+    n: usize,
+    ends: &[u16],
+    presets: &[u16],
+    strategy: ColoringStrategy,
+    colors: &mut [u16],
+) -> Result<usize, Refusal> {
+    let mut days = 0;
+    // SAFETY: as above.
+    let number = unsafe {
+        ffi::wg_greedy_node_color_with_coloring_strategy(
+            n,
+            ends.as_ptr(),
+            ends.len(),
+            presets.as_ptr(),
+            presets.len(),
+            strategy as u8,
+            colors.as_mut_ptr(),
+            colors.len(),
+            &mut days,
+        )
+    };
+    answer(number, days)
+}
+
+/// Colours the edges by [`ColoringStrategy::Degree`]; edges that share an end differ.
+///
+/// ```
+/// let mut colors = [0; 4];
+/// assert_eq!(wulgranite::greedy_edge_color(4, &[0, 1, 1, 2, 0, 2, 2, 3], &mut colors), Ok(3));
+/// assert_eq!(colors, [2, 0, 1, 2]);
+/// ```
+pub fn greedy_edge_color(n: usize, ends: &[u16], colors: &mut [u16]) -> Result<usize, Refusal> {
+    let mut days = 0;
+    // SAFETY: as above.
+    let number = unsafe {
+        ffi::wg_greedy_edge_color(
+            n,
+            ends.as_ptr(),
+            ends.len(),
+            colors.as_mut_ptr(),
+            colors.len(),
+            &mut days,
+        )
+    };
+    answer(number, days)
+}
+
+/// The same by any strategy, with presets, which stay.
+///
+/// ```
+/// use wulgranite::{ColoringStrategy, NONE};
+/// let mut colors = [0; 2];
+/// let strategy = ColoringStrategy::IndependentSet;
+/// assert_eq!(
+///     wulgranite::greedy_edge_color_with_coloring_strategy(3, &[0, 1, 1, 2], &[NONE, 0], strategy, &mut colors),
+///     Ok(2)
+/// );
+/// assert_eq!(colors, [1, 0]);
+/// ```
+pub fn greedy_edge_color_with_coloring_strategy(
+    n: usize,
+    ends: &[u16],
+    presets: &[u16],
+    strategy: ColoringStrategy,
+    colors: &mut [u16],
+) -> Result<usize, Refusal> {
+    let mut days = 0;
+    // SAFETY: as above.
+    let number = unsafe {
+        ffi::wg_greedy_edge_color_with_coloring_strategy(
+            n,
+            ends.as_ptr(),
+            ends.len(),
+            presets.as_ptr(),
+            presets.len(),
+            strategy as u8,
+            colors.as_mut_ptr(),
+            colors.len(),
+            &mut days,
+        )
+    };
+    answer(number, days)
+}
+
+/// Writes the pairs of the line graph, two numbers each; edge k becomes node k. The answer is the number of pairs; numbers
+/// beyond them are unchanged.
+///
+/// ```
+/// let mut list = [0; 10];
+/// assert_eq!(wulgranite::line_graph(4, &[0, 1, 0, 2, 1, 2, 0, 3], &mut list), Ok(5));
+/// assert_eq!(list, [3, 1, 3, 0, 1, 0, 2, 0, 2, 1]);
+/// ```
+pub fn line_graph(n: usize, ends: &[u16], list: &mut [u16]) -> Result<usize, Refusal> {
+    let mut pairs = 0;
+    // SAFETY: as above.
+    let number = unsafe {
+        ffi::wg_line_graph(
+            n,
+            ends.as_ptr(),
+            ends.len(),
+            list.as_mut_ptr(),
+            list.len(),
+            &mut pairs,
+        )
+    };
+    answer(number, pairs)
+}
+
+/// Colours the edges by Misra and Gries: with D the most edges at a node, colours are 0 to D, and edges that share an end
+/// differ. Of graphs without loops and double edges none is refused.
+///
+/// ```
+/// let mut days = [0; 4];
+/// assert_eq!(wulgranite::misra_gries_edge_color(4, &[0, 1, 1, 2, 0, 2, 2, 3], &mut days), Ok(3));
+/// assert_eq!(days, [2, 1, 0, 2]);
+/// ```
+pub fn misra_gries_edge_color(
+    n: usize,
+    ends: &[u16],
+    colors: &mut [u16],
+) -> Result<usize, Refusal> {
+    let mut days = 0;
+    // SAFETY: as above.
+    let number = unsafe {
+        ffi::wg_misra_gries_edge_color(
+            n,
+            ends.as_ptr(),
+            ends.len(),
+            colors.as_mut_ptr(),
+            colors.len(),
+            &mut days,
+        )
+    };
+    answer(number, days)
+}
+
+/// What a house file holds besides its ends.
+#[derive(Clone, Copy, Debug, PartialEq, Eq, Hash)]
+pub struct GraphFile {
+    /// The node count, not tested.
+    pub nodes: usize,
+    /// The number of edges.
+    pub edges: usize,
+    /// Bit t - 1 is set where tag t stood.
+    pub tags: usize,
+}
+
+/// Reads a house file and copies its ends, which are not tested; numbers beyond them are unchanged.
+///
+/// ```
+/// use wulgranite::{read_graph_file, GraphFile, Refusal};
+/// let mut ends = [0; 8192];
+/// let file = [1, 2, 0, 3, 0, 2, 4, 0, 1, 0, 2, 0];
+/// assert_eq!(read_graph_file(&file, &mut ends), Ok(GraphFile { nodes: 3, edges: 1, tags: 3 }));
+/// assert_eq!(ends[..2], [1, 2]);
+/// assert_eq!(read_graph_file(&[], &mut ends), Err(Refusal::BadFile));
+/// ```
+pub fn read_graph_file(bytes: &[u8], ends: &mut [u16]) -> Result<GraphFile, Refusal> {
+    let mut file = GraphFile {
+        nodes: 0,
+        edges: 0,
+        tags: 0,
+    };
+    // SAFETY: as above.
+    let number = unsafe {
+        ffi::wg_read_graph_file(
+            bytes.as_ptr(),
+            bytes.len(),
+            ends.as_mut_ptr(),
+            ends.len(),
+            &mut file.nodes,
+            &mut file.edges,
+            &mut file.tags,
+        )
+    };
+    answer(number, file)
+}
