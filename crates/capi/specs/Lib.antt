@@ -3,3 +3,4 @@ pub mod Answer
 pub mod AnswerLaws
 pub mod Strategy
 pub mod StrategyLaws
+pub mod Zero
