@@ -28,6 +28,7 @@ extern "C" {
 enum {
     WG_MAX_NODES = 512,
     WG_MAX_EDGES = 4096,
+    WG_MAX_FILE = 16392,
     WG_NONE = 65535 /* in a list of presets: none */
 };
 
@@ -126,6 +127,17 @@ uint32_t wg_line_graph(size_t n, const uint16_t *ends, size_t ends_len, uint16_t
  * On a refusal colors and *days are unchanged.
  */
 uint32_t wg_misra_gries_edge_color(size_t n, const uint16_t *ends, size_t ends_len, uint16_t *colors, size_t colors_len, size_t *days);
+
+/*
+ * Reads a graph file: *nodes and *edges are its counts, bit t - 1 of *tags is set where tag t stood, and the ends go to the front of
+ * ends, two for each edge; numbers beyond stay. Neither the node count nor the ends are tested: the other calls do that.
+ * A file has at most 16,392 bytes, numbers of two bytes low byte first: tag 1, the length 2, n; then tag 2, the length of 4 for each
+ * edge, the ends; then the end.
+ * Refuses by 10 where the bytes have another layout; 5 if ends_len is less than two for each edge.
+ * On a refusal ends, *nodes, *edges and *tags are unchanged.
+ */
+uint32_t wg_read_graph_file(const uint8_t *bytes, size_t bytes_len, uint16_t *ends, size_t ends_len,
+                      size_t *nodes, size_t *edges, size_t *tags);
 
 #ifdef __cplusplus
 }

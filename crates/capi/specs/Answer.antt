@@ -11,3 +11,21 @@ code (refused k) = k
 abbrev pub valueOr : ℕ → Report ℕ → ℕ
 valueOr before (accepted value) = value
 valueOr before (refused k) = before
+
+-- The same where a report has several values, each behind a pointer of its own.
+abbrev pub partOr : {A : Type 0} → (A → ℕ) → ℕ → Report A → ℕ
+partOr part before (accepted values) = part values
+partOr part before (refused k) = before
+
+-- "n, m and which tags stood", one by one.
+abbrev pub Read : Type 0
+Read = ℕ × ℕ × ℕ
+
+abbrev pub nodesRead : Read → ℕ
+nodesRead values = values .0
+
+abbrev pub edgesRead : Read → ℕ
+edgesRead values = values .1
+
+abbrev pub tagsRead : Read → ℕ
+tagsRead values = values .2

@@ -21,6 +21,7 @@ use Rattle.line_graph.specs.LineList.{lineChecks, lineGraph}
 use Rattle.greedy.specs.Call.{Rule, ruleOf, itemChecks, greedyItems, greedyItemsPlain, greedyNodes, greedyNodesPlain, edgeNeighbors, greedyEdges, greedyEdgesPlain}
 use Rattle.greedy.specs.declared.ColoringStrategy.{ColoringStrategy}
 use Rattle.vizing.specs.MisraGries.{misraGriesChecks, misraGries}
+use Rattle.graph_file.specs.File.{fileChecks, readFile}
 use Rattle.capi.specs.Answer.{code}
 use Rattle.capi.specs.Strategy.{strategyOf, unknownStrategy, byNumber, nodesByNumber, edgesByNumber}
 
@@ -45,6 +46,10 @@ zero-accepted checks values a e = go (firstRefusal checks) refl
 -- A caller knows by the number alone whether this outcome is an acceptance.
 abbrev ZeroAccepts : {A : Type 0} → Report A → Type 0
 ZeroAccepts report = code report ≡ 0 → Accepted report
+
+pub read-file-zero : (bytes lent : List ℕ) → ZeroAccepts (readFile bytes lent .report)
+unfolding readFile fileChecks aboveZero
+read-file-zero bytes lent = zero-accepted (fileChecks bytes lent) _ refl
 
 module _ (n : ℕ) (ends : List ℕ) where
   pub incidence-zero : (starts entries : List ℕ) → ZeroAccepts (incidenceOf n ends starts entries .report)

@@ -9,12 +9,15 @@ ghost use Rattle.line_graph.specs.LineList.{lineGraph};
 ghost use Rattle.greedy.specs.Degree.{degreeColors};
 ghost use Rattle.greedy.specs.Call.{greedyNodes, greedyNodesPlain, greedyEdgesPlain};
 ghost use Rattle.vizing.specs.MisraGries.{misraGries};
-ghost use Rattle.capi.specs.Answer.{code, valueOr};
+ghost use Rattle.graph_file.specs.Report.{reportOfFile};
+ghost use Rattle.graph_file.specs.File.{readFile};
+ghost use Rattle.capi.specs.Answer.{code, valueOr, partOr, nodesRead, edgesRead, tagsRead};
 ghost use Rattle.capi.specs.Strategy.{nodesByNumber, edgesByNumber};
 use strategy::StrategyNumber;
 use strategy::strategy_of;
 use strategy::unknown_strategy;
 use wulgranite::Coloring;
+use wulgranite::FileAnswer;
 use wulgranite::IncidenceAnswer;
 use wulgranite::LineList;
 
@@ -56,6 +59,32 @@ fn answer_line_list(list: LineList, pairs: &mut usize) -> u32
             0
         }
         LineList::Refused(refusal) => refusal.number(),
+    }
+}
+
+fn answer_file(
+    file: FileAnswer,
+    nodes: &mut usize,
+    edges: &mut usize,
+    tags: &mut usize,
+) -> u32
+    ensures { λ r. ⌜ r ≡ code (reportOfFile file) ⌝ }
+    ensures { λ _. ⌜ now (nodes .exit) ≡ partOr nodesRead (now (nodes .entry)) (reportOfFile file) ⌝ }
+    ensures { λ _. ⌜ now (edges .exit) ≡ partOr edgesRead (now (edges .entry)) (reportOfFile file) ⌝ }
+    ensures { λ _. ⌜ now (tags .exit) ≡ partOr tagsRead (now (tags .entry)) (reportOfFile file) ⌝ }
+{
+    match file {
+        FileAnswer::Accepted {
+            nodes: n,
+            edges: m,
+            tags: stood,
+        } => {
+            *nodes = n;
+            *edges = m;
+            *tags = stood as usize;
+            0
+        }
+        FileAnswer::Refused(refusal) => refusal.number(),
     }
 }
 
@@ -201,4 +230,21 @@ pub extern "C" fn wg_misra_gries_edge_color(
     ensures { λ _. ⌜ now (days .exit) ≡ valueOr (now (days .entry)) (misraGries n (now (ends .entry)) (now (colors .entry)) .report) ⌝ }
 {
     answer_coloring(wulgranite::misra_gries_edge_color(n, ends, colors), days)
+}
+
+#[no_mangle]
+pub extern "C" fn wg_read_graph_file(
+    bytes: &[u8],
+    ends: &mut [u16],
+    nodes: &mut usize,
+    edges: &mut usize,
+    tags: &mut usize,
+) -> u32
+    ensures { λ r. ⌜ r ≡ code (readFile (now (bytes .entry)) (now (ends .entry)) .report) ⌝ }
+    ensures { λ _. ⌜ now (ends .exit) ≡ readFile (now (bytes .entry)) (now (ends .entry)) .ends ⌝ }
+    ensures { λ _. ⌜ now (nodes .exit) ≡ partOr nodesRead (now (nodes .entry)) (readFile (now (bytes .entry)) (now (ends .entry)) .report) ⌝ }
+    ensures { λ _. ⌜ now (edges .exit) ≡ partOr edgesRead (now (edges .entry)) (readFile (now (bytes .entry)) (now (ends .entry)) .report) ⌝ }
+    ensures { λ _. ⌜ now (tags .exit) ≡ partOr tagsRead (now (tags .entry)) (readFile (now (bytes .entry)) (now (ends .entry)) .report) ⌝ }
+{
+    answer_file(wulgranite::read_graph_file(bytes, ends), nodes, edges, tags)
 }

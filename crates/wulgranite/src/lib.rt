@@ -14,6 +14,8 @@ pub use graph::edge_at;
 pub use graph::edges_at;
 pub use graph::far_end;
 pub use incidence::incidence;
+pub use graph_file::FileAnswer;
+pub use graph_file::read_graph_file;
 pub use greedy::ColoringStrategy;
 pub use greedy_color::greedy_edge_color;
 pub use greedy_color::greedy_edge_color_with_coloring_strategy;

@@ -1,0 +1,51 @@
+-- `layout_of` meets its contract: one law for each answer.
+use native.Mathlib.Omega.{arith}
+use borrow.Author.Needs.{needs}
+use Rattle.graph_file.specs.ReadLaws.{file-long, file-truncated, nodes-tag, nodes-length, nodes-read}
+use Rattle.graph_file.proofs.layout.layout_of.Statement.{statement}
+use Rattle.graph_file.proofs.layout.layout_of.Tie as tie
+
+returns : tie.Need-returns
+returns c = file-long _ (c .if1 .taken)
+
+returns-2 : tie.Need-returns-2
+returns-2 c = file-truncated _ (c .before .before .before .if1 .left) _ (c .before .before .field-at .ensures .0) (c .enum-told .given .1)
+
+returns-3 : tie.Need-returns-3
+returns-3 c = nodes-tag _ (c .before .before .before .before .before .before .if1 .left) _ (c .before .before .before .before .before .field-at .ensures .0) _ (c .before .before .before .field .given .1) (c .if2 .taken)
+
+returns-4 : tie.Need-returns-4
+returns-4 c =
+    let f = c .before .before .before .before .before .before .before .field-at .ensures in
+    nodes-length _ (c .before .before .before .before .before .before .before .before .if1 .left) _ (f .0) _ (c .before .before .before .before .before .field .given .1) (f .1) (c .if3 .taken)
+
+number-at-requires : tie.Need-number-at-requires
+number-at-requires c κs = omega (arith, c .before .before .before .before .before .before .before .field-at .ensures .1 _ (c .before .before .before .before .before .field .given .1))
+
+add-after-nodes : tie.Need-add-after-nodes
+add-after-nodes c = omega (arith, c .before .before .before .before .before .before .before .before .before .field-at .ensures .1 _ (c .before .before .before .before .before .before .before .field .given .1))
+
+after-nodes-requires : tie.Need-after-nodes-requires
+after-nodes-requires c κs = c .before .before .before .before .before .before .before .before .before .field-at .ensures .1 _ (c .before .before .before .before .before .before .before .field .given .1)
+
+returns-5 : tie.Need-returns-5
+returns-5 c =
+    let f = c .before .before .before .before .before .before .before .before .before .before .field-at .ensures in
+    let a = c .after-nodes .ensures in
+    (nodes-read _ (c .before .before .before .before .before .before .before .before .before .before .before .if1 .left) _ (f .0) _ (c .before .before .before .before .before .before .before .before .field .given .1) (f .1) (c .before .before .before .before .before .if2 .left) (c .before .before .before .if3 .left) _ (c .before .before .number-at .ensures) _ (a .0), a .1)
+
+pub layout-of-spec : {M : Type 1} → statement M
+layout-of-spec =
+    tie.close
+    (tie.spec
+    returns
+    (λ c κs. search needs) (λ c. search needs)
+    returns-2
+    (λ c. search needs)
+    returns-3
+    returns-4
+    number-at-requires
+    (λ c. search needs)
+    add-after-nodes
+    after-nodes-requires
+    returns-5)

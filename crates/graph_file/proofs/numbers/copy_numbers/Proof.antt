@@ -1,0 +1,68 @@
+-- `copy_numbers` meets its contract. The invariant: the numbers passed are copied.
+use Prim.Native.Nat.{_+_, _-_, _≤_, _/_}
+use mathlib.Core.Path.{_≡_, refl}
+use mathlib.Core.List.{_++_}
+use lib.ListN.{length, take, drop, length-set}
+use native.Mathlib.Omega.{arith}
+use borrow.Author.Needs.{needs}
+use Rattle.graph_file.specs.File.{numbers}
+use Rattle.graph_file.specs.NumberLaws.{length-numbers, number-copied, all-copied}
+use Rattle.graph_file.proofs.numbers.copy_numbers.Statement.{statement}
+use Rattle.graph_file.proofs.numbers.copy_numbers.Tie as tie
+
+abbrev Inv-loop : tie.InvT-loop
+Inv-loop bytes list₀ count i₀ list i = (i ≤ count) × (count ≡ length bytes / 2) × (length list ≡ length list₀) × (list ≡ take i (numbers bytes) ++ drop i list₀)
+
+abbrev μ-loop : tie.MeasureT-loop
+μ-loop bytes list₀ count i₀ list i = count - i
+
+loop-holds : tie.Need-loop-holds Inv-loop μ-loop
+loop-holds c = (omega arith, refl, refl, refl)
+
+mul-number-at : tie.Need-mul-number-at Inv-loop μ-loop
+mul-number-at c = search needs
+
+number-at-requires : tie.Need-number-at-requires Inv-loop μ-loop
+number-at-requires c κs = search needs
+
+mul-list : tie.Need-mul-list Inv-loop μ-loop
+mul-list c = search needs
+
+slice-write-list : tie.Need-slice-write-list Inv-loop μ-loop
+slice-write-list c =
+    let s = c .before .before .before .before .before in
+    omega (arith, s .pre, length-numbers (s .args .bytes .now), c .before .before .loop .inv .2)
+
+add-i : tie.Need-add-i Inv-loop μ-loop
+add-i c = search needs
+
+loop-less : tie.Need-loop-less Inv-loop μ-loop
+loop-less c = search needs
+
+loop-again : tie.Need-loop-again Inv-loop μ-loop
+loop-again c =
+    let l = c .before .before .loop in
+    (omega arith, l .inv .1, simp length-set (l .inv .2), number-copied _ _ _ (l .i) _ (l .inv .3) (omega arith) (c .before .before .before .before .before .pre) (c .number-at .ensures))
+
+same-length : tie.Need-same-length Inv-loop μ-loop
+same-length c = search needs
+
+returns : tie.Need-returns Inv-loop μ-loop
+returns c = let l = c .before .loop in all-copied _ _ _ (l .i) (l .inv .3) (omega arith) (omega arith)
+
+pub copy-numbers-spec : {M : Type 1} → statement M
+copy-numbers-spec =
+    tie.close
+    (tie.spec
+    Inv-loop
+    μ-loop
+    loop-holds
+    mul-number-at
+    number-at-requires
+    mul-list
+    slice-write-list
+    add-i
+    loop-less
+    loop-again
+    same-length
+    returns)

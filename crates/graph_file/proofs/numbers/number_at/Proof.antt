@@ -1,0 +1,36 @@
+-- `number_at` meets its contract: two bytes make a number below 65,536.
+use Prim.Native.Nat.{_+_}
+use mathlib.Core.Path.{refl}
+use native.Mathlib.Omega.{arith}
+use borrow.Author.Needs.{needs}
+use Rattle.graph_file.specs.File.{number16}
+use Rattle.graph_file.proofs.numbers.number_at.Statement.{statement}
+use Rattle.graph_file.proofs.numbers.number_at.Tie as tie
+
+cast-low : tie.Need-cast-low
+cast-low c = omega (arith, c .shared-slice-known .given (c .before .args .at))
+
+cast-high : tie.Need-cast-high
+cast-high c = omega (arith, c .shared-slice-known2 .given (c .before .before .args .at + 1))
+
+mul-result : tie.Need-mul-result
+mul-result c = omega (arith, c .before .shared-slice-known .given (c .before .before .args .at), c .shared-slice-known2 .given (c .before .before .args .at + 1))
+
+add-result : tie.Need-add-result
+add-result c = omega (arith, c .before .shared-slice-known .given (c .before .before .args .at), c .shared-slice-known2 .given (c .before .before .args .at + 1))
+
+returns : tie.Need-returns
+unfolding number16
+returns c = refl
+
+pub number-at-spec : {M : Type 1} → statement M
+number-at-spec =
+    tie.close
+    (tie.spec
+    (λ c. search needs)
+    cast-low
+    (λ c. search needs) (λ c. search needs)
+    cast-high
+    mul-result
+    add-result
+    returns)
