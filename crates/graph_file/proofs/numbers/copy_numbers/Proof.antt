@@ -19,33 +19,15 @@ abbrev μ-loop : tie.MeasureT-loop
 loop-holds : tie.Need-loop-holds Inv-loop μ-loop
 loop-holds c = (omega arith, refl, refl, refl)
 
-mul-number-at : tie.Need-mul-number-at Inv-loop μ-loop
-mul-number-at c = search needs
-
-number-at-requires : tie.Need-number-at-requires Inv-loop μ-loop
-number-at-requires c κs = search needs
-
-mul-list : tie.Need-mul-list Inv-loop μ-loop
-mul-list c = search needs
-
 slice-write-list : tie.Need-slice-write-list Inv-loop μ-loop
 slice-write-list c =
     let s = c .before .before .before .before .before in
     omega (arith, s .pre, length-numbers (s .args .bytes .now), c .before .before .loop .inv .2)
 
-add-i : tie.Need-add-i Inv-loop μ-loop
-add-i c = search needs
-
-loop-less : tie.Need-loop-less Inv-loop μ-loop
-loop-less c = search needs
-
 loop-again : tie.Need-loop-again Inv-loop μ-loop
 loop-again c =
     let l = c .before .before .loop in
     (omega arith, l .inv .1, simp length-set (l .inv .2), number-copied _ _ _ (l .i) _ (l .inv .3) (omega arith) (c .before .before .before .before .before .pre) (c .number-at .ensures))
-
-same-length : tie.Need-same-length Inv-loop μ-loop
-same-length c = search needs
 
 returns : tie.Need-returns Inv-loop μ-loop
 returns c = let l = c .before .loop in all-copied _ _ _ (l .i) (l .inv .3) (omega arith) (omega arith)
@@ -57,12 +39,9 @@ copy-numbers-spec =
     Inv-loop
     μ-loop
     loop-holds
-    mul-number-at
-    number-at-requires
-    mul-list
+    (λ c. search needs) (λ c κs. search needs) (λ c. search needs)
     slice-write-list
-    add-i
-    loop-less
+    (λ c. search needs) (λ c. search needs)
     loop-again
-    same-length
+    (λ c. search needs)
     returns)
