@@ -62,12 +62,7 @@ fn answer_line_list(list: LineList, pairs: &mut usize) -> u32
     }
 }
 
-fn answer_file(
-    file: FileAnswer,
-    nodes: &mut usize,
-    edges: &mut usize,
-    tags: &mut usize,
-) -> u32
+fn answer_file(file: FileAnswer, nodes: &mut usize, edges: &mut usize, tags: &mut usize) -> u32
     ensures { λ r. ⌜ r ≡ code (reportOfFile file) ⌝ }
     ensures { λ _. ⌜ now (nodes .exit) ≡ partOr nodesRead (now (nodes .entry)) (reportOfFile file) ⌝ }
     ensures { λ _. ⌜ now (edges .exit) ≡ partOr edgesRead (now (edges .entry)) (reportOfFile file) ⌝ }

@@ -18,9 +18,9 @@ use graph::copy_colors;
 use graph::days_of;
 use graph::edges_at;
 use graph::end_at;
-use incidence::incidence_front;
 use greedy::check_edges;
 use greedy::smallest_edge_color;
+use incidence::incidence_front;
 
 // How many neighbours an edge has: all edges at each end but itself. A loop has one end.
 fn edge_degree(n: usize, ends: &[u16], starts: &[u16], entries: &[u16], edge: EdgeIndex) -> usize

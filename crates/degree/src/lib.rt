@@ -15,9 +15,9 @@ use graph::NodeIndex;
 use graph::copy_colors;
 use graph::days_of;
 use graph::edges_at;
-use incidence::incidence_front;
 use greedy::check_nodes;
 use greedy::smallest_color;
+use incidence::incidence_front;
 
 mod edges;
 mod order;

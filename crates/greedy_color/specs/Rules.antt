@@ -43,17 +43,31 @@ module _ (n : ℕ) (ends : List ℕ) (k : ℕ) (lent : List ℕ) (r : Report ℕ
         → (r ≡ greedyNodesPlain degreeColors n ends lent .report) × ((colors ≡ greedyNodesPlain degreeColors n ends lent .colors) × ((Passed n ends → length lent ≡ n → Accepted r) × PageGrid n ends [] r colors))
     nodes-without-presets as-many a b =
         let p = nodes-plain-same degreeColors n ends presets lent (λ h l. e ∙ ap (λ (i : ℕ). replicate i noColor) (as-many h l)) in
-        let sized : Passed n ends → length lent ≡ n → length presets ≡ n = λ h l. ap length e ∙ (length-replicate k noColor ∙ as-many h l) in
-        (a ∙ p .0, (b ∙ p .1, (λ h l. nodes-accept degreeColors degree-greedy n ends presets lent r colors a b h (sized h l) l,
-            grid-without-presets n ends r colors k (subst (λ (x : List ℕ). PageGrid n ends x r colors) e (page-grid degreeColors degree-greedy n ends presets lent r colors a b)))))
+        let sized : Passed n ends → length lent ≡ n → length presets ≡ n = λ h l. ap length e ∙ (length-replicate k noColor ∙ as-many h l) in (
+          a ∙ p .0,
+          (
+            b ∙ p .1,
+            (
+              λ h l. nodes-accept degreeColors degree-greedy n ends presets lent r colors a b h (sized h l) l,
+              grid-without-presets n ends r colors k (subst (λ (x : List ℕ). PageGrid n ends x r colors) e (page-grid degreeColors degree-greedy n ends presets lent r colors a b)),
+            ),
+          ),
+        )
 
     pub edges-without-presets : (Passed n ends → length lent ≡ edgeCount ends → k ≡ edgeCount ends) → r ≡ greedyEdges degreeColors n ends presets lent .report → colors ≡ greedyEdges degreeColors n ends presets lent .colors
         → (r ≡ greedyEdgesPlain degreeColors n ends lent .report) × ((colors ≡ greedyEdgesPlain degreeColors n ends lent .colors) × ((Passed n ends → length lent ≡ edgeCount ends → Accepted r) × EdgesApart ends [] r colors))
     edges-without-presets as-many a b =
         let p = edges-plain-same degreeColors n ends presets lent (λ h l. e ∙ ap (λ (i : ℕ). replicate i noColor) (as-many h l)) in
-        let sized : Passed n ends → length lent ≡ edgeCount ends → length presets ≡ edgeCount ends = λ h l. ap length e ∙ (length-replicate k noColor ∙ as-many h l) in
-        (a ∙ p .0, (b ∙ p .1, (λ h l. edges-accept degreeColors degree-greedy n ends presets lent r colors a b h (sized h l) l,
-            apart-without-presets ends r colors k (subst (λ (x : List ℕ). EdgesApart ends x r colors) e (edges-apart degreeColors degree-greedy n ends presets lent r colors a b)))))
+        let sized : Passed n ends → length lent ≡ edgeCount ends → length presets ≡ edgeCount ends = λ h l. ap length e ∙ (length-replicate k noColor ∙ as-many h l) in (
+          a ∙ p .0,
+          (
+            b ∙ p .1,
+            (
+              λ h l. edges-accept degreeColors degree-greedy n ends presets lent r colors a b h (sized h l) l,
+              apart-without-presets ends r colors k (subst (λ (x : List ℕ). EdgesApart ends x r colors) e (edges-apart degreeColors degree-greedy n ends presets lent r colors a b)),
+            ),
+          ),
+        )
 
 -- ---- the calls by a strategy
 

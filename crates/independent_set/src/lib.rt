@@ -11,9 +11,9 @@ use graph::Checked;
 use graph::Coloring;
 use graph::copy_colors;
 use graph::days_of;
-use incidence::incidence_front;
 use greedy::check_edges;
 use greedy::check_nodes;
+use incidence::incidence_front;
 
 mod edges;
 mod items;

@@ -11,12 +11,14 @@ use crate::output::put;
 use crate::output::put_all;
 use crate::output::put_bytes;
 use crate::output::put_list;
+use crate::output::put_number;
 use crate::output::put_part;
 use crate::output::put_report;
 use graph::Coloring;
 use graph::IncidenceAnswer;
 use graph::NodeIndex;
 use graph::edges_at;
+use graph_file::FileAnswer;
 use greedy::ColoringStrategy;
 use line_graph::LineList;
 
@@ -293,6 +295,63 @@ fn call_misra_gries(
     put_colored(text, waiting, b"misra_gries_edge_color", answer, colors)
 }
 
+fn put_file(text: &mut [u8], waiting: usize, answer: FileAnswer) -> usize {
+    match answer {
+        FileAnswer::Accepted { nodes, edges, tags } => {
+            let end = put_all(text, waiting, b"read_graph_file nodes ");
+            let end = put_number(text, end, nodes as u64);
+            let end = put_all(text, end, b" edges ");
+            let end = put_number(text, end, edges as u64);
+            put_report(text, end, b"", b"tags", tags as u64)
+        }
+        FileAnswer::Refused(refusal) => put_report(
+            text,
+            waiting,
+            b"read_graph_file",
+            b"refused",
+            refusal.number() as u64,
+        ),
+    }
+}
+
+fn call_read_file(
+    text: &mut [u8],
+    waiting: usize,
+    file: &[u8],
+    line: Line,
+    list: &mut [u16],
+) -> usize {
+    let c = cut(line.first, list);
+    let ends = &mut list[..c];
+    lend(ends);
+    let answer = graph_file::read_graph_file(file, ends);
+    let end = put_file(text, waiting, answer);
+    let end = put_list(text, end, ends);
+    put(text, end, b'\n')
+}
+
+// As much of the text as was lent, then an empty line.
+fn put_matchdays(text: &mut [u8], waiting: usize, file: &[u8], page: &mut [u8]) -> usize {
+    lend_bytes(page);
+    let length = matchday_text::matchday_text(file, page);
+    let end = put_report(text, waiting, b"matchdays", b"length", length as u64);
+    let end = put(text, end, b'\n');
+    let shown = cut_bytes(length, page);
+    let end = put_all(text, end, &page[..shown]);
+    put(text, end, b'\n')
+}
+
+fn call_matchdays(
+    text: &mut [u8],
+    waiting: usize,
+    file: &[u8],
+    line: Line,
+    bytes: &mut [u8],
+) -> usize {
+    let c = cut_bytes(line.first, bytes);
+    put_matchdays(text, waiting, file, &mut bytes[..c])
+}
+
 // The line's call; a line that is none prints nothing.
 pub fn call(
     text: &mut [u8],
@@ -304,12 +363,15 @@ pub fn call(
     list: &mut [u16],
     entries: &mut [u16],
     bytes: &mut [u8],
+    file: &[u8],
 ) -> usize {
     let n = sizes.nodes;
     let m = cut(sizes.ends, ends);
     let ends = &ends[..m];
     let p = cut(sizes.presets, presets);
     let presets = &presets[..p];
+    let f = cut_bytes(sizes.file, file);
+    let file = &file[..f];
     let name = line.name;
     match name {
         Name::Incidence => call_incidence(text, waiting, n, ends, line, list, entries),
@@ -340,6 +402,8 @@ pub fn call(
             call_edge_color_by(text, waiting, n, ends, presets, line, list)
         }
         Name::MisraGriesEdgeColor => call_misra_gries(text, waiting, n, ends, line, list),
+        Name::ReadGraphFile => call_read_file(text, waiting, file, line, list),
+        Name::Matchdays => call_matchdays(text, waiting, file, line, bytes),
         _ => waiting,
     }
 }

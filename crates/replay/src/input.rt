@@ -5,6 +5,7 @@ ghost use Rattle.io.specs.Counts.{Counts};
 use crate::cursor::Cursor;
 use crate::cursor::next;
 use crate::lent::cut;
+use crate::lent::cut_bytes;
 
 // A number and the place after it.
 pub struct NumberRead {
@@ -113,6 +114,30 @@ pub fn read_list(buffer: &mut [u8], input: Cursor, list: &mut [u16]) -> ListRead
     while i < count {
         let read = read_number(buffer, here);
         list[i] = narrow(read.value);
+        here = read.input;
+        i += 1;
+    }
+    ListRead { count, input: here }
+}
+
+// The same of bytes.
+fn narrow_byte(value: usize) -> u8
+    ensures { λ r. ⌜ (value ≤ 255 → r ≡ value) ⌝ }
+{
+    if value > 255 { 255 } else { value as u8 }
+}
+
+pub fn read_bytes(buffer: &mut [u8], input: Cursor, bytes: &mut [u8]) -> ListRead
+    ensures { λ r. ⌜ Counts (r .count) (now (bytes .exit)) ⌝ }
+    ensures { λ r. ⌜ r .input .left ≤ input .left ⌝ }
+{
+    let wanted = read_number(buffer, input);
+    let count = cut_bytes(wanted.value, bytes);
+    let mut here = wanted.input;
+    let mut i = 0;
+    while i < count {
+        let read = read_number(buffer, here);
+        bytes[i] = narrow_byte(read.value);
         here = read.input;
         i += 1;
     }

@@ -2,6 +2,7 @@
 ghost use Prim.Native.Nat.{_-_, _≤_};
 use crate::cursor::Cursor;
 use crate::cursor::skip_line;
+use crate::input::read_bytes;
 use crate::input::read_list;
 use crate::input::read_number;
 use crate::names::Name;
@@ -16,11 +17,12 @@ pub struct Line {
     pub next: Cursor,
 }
 
-// What the graph and presets lines above said: the node count, and how many ends and presets there are.
+// What the graph, presets and file lines above said: the node count, and how many ends, presets and bytes of a file there are.
 pub struct Sizes {
     pub nodes: usize,
     pub ends: usize,
     pub presets: usize,
+    pub file: usize,
 }
 
 impl Sizes {
@@ -29,6 +31,7 @@ impl Sizes {
             nodes: 0,
             ends: 0,
             presets: 0,
+            file: 0,
         }
     }
 
@@ -39,11 +42,19 @@ impl Sizes {
                 nodes: line.first,
                 ends: line.second,
                 presets: self.presets,
+                file: self.file,
             },
             Name::Presets => Sizes {
                 nodes: self.nodes,
                 ends: self.ends,
                 presets: line.first,
+                file: self.file,
+            },
+            Name::File => Sizes {
+                nodes: self.nodes,
+                ends: self.ends,
+                presets: self.presets,
+                file: line.first,
             },
             _ => self,
         }
@@ -78,6 +89,22 @@ fn read_presets(buffer: &mut [u8], input: Cursor, presets: &mut [u16]) -> Line
     Line {
         name: Name::Presets,
         first: list.count,
+        second: 0,
+        third: 0,
+        next,
+    }
+}
+
+// file L b1 .. bL
+fn read_file(buffer: &mut [u8], input: Cursor, file: &mut [u8]) -> Line
+    ensures { λ r. ⌜ r .next .left ≤ input .left - 1 ⌝ }
+{
+    let bytes = read_bytes(buffer, input, file);
+    let rest = bytes.input;
+    let next = skip_line(buffer, rest);
+    Line {
+        name: Name::File,
+        first: bytes.count,
         second: 0,
         third: 0,
         next,
@@ -129,6 +156,7 @@ pub fn read_line(
     presets: &mut [u16],
     starts: &mut [u16],
     entries: &mut [u16],
+    file: &mut [u8],
 ) -> Line
     ensures { λ r. ⌜ r .next .left ≤ input .left - 1 ⌝ }
 {
@@ -139,6 +167,7 @@ pub fn read_line(
         Name::Graph => read_graph(buffer, from, ends),
         Name::Presets => read_presets(buffer, from, presets),
         Name::EdgesAt => read_table(buffer, from, starts, entries),
+        Name::File => read_file(buffer, from, file),
         _ => read_call(buffer, from, name),
     }
 }

@@ -21,12 +21,13 @@ fn run(
     list: &mut [u16],
     entries: &mut [u16],
     bytes: &mut [u8],
+    file: &mut [u8],
 ) {
     let mut input = Cursor::start(buffer);
     let mut waiting = 0;
     let mut sizes = Sizes::none();
     while input.left > 0 {
-        let line = read_line(buffer, input, ends, presets, list, entries);
+        let line = read_line(buffer, input, ends, presets, list, entries, file);
         sizes = sizes.after(line);
         waiting = call(
             text,
@@ -38,6 +39,7 @@ fn run(
             list,
             entries,
             bytes,
+            file,
         );
         input = line.next;
     }
@@ -51,7 +53,8 @@ fn main() {
     let mut presets = [0u16; 4200];
     let mut list = [0u16; 65600];
     let mut entries = [0u16; 8400];
-    let mut bytes = [0u8; 1200];
+    let mut bytes = [0u8; 100000];
+    let mut file = [0u8; 33000];
     run(
         &mut buffer,
         &mut text,
@@ -60,5 +63,6 @@ fn main() {
         &mut list,
         &mut entries,
         &mut bytes,
+        &mut file,
     );
 }

@@ -18,6 +18,9 @@ pub enum Name {
     GreedyEdgeColor,
     GreedyEdgeColorWithColoringStrategy,
     MisraGriesEdgeColor,
+    File,
+    ReadGraphFile,
+    Matchdays,
     Unknown,
 }
 
@@ -79,6 +82,15 @@ fn name_of(word: &[u8]) -> Name {
     }
     if same(word, b"misra_gries_edge_color") {
         return Name::MisraGriesEdgeColor;
+    }
+    if same(word, b"file") {
+        return Name::File;
+    }
+    if same(word, b"read_graph_file") {
+        return Name::ReadGraphFile;
+    }
+    if same(word, b"matchdays") {
+        return Name::Matchdays;
     }
     Name::Unknown
 }

@@ -40,7 +40,7 @@ pub fn put_all(text: &mut [u8], waiting: usize, bytes: &[u8]) -> usize {
     end
 }
 
-fn put_number(text: &mut [u8], waiting: usize, value: u64) -> usize {
+pub fn put_number(text: &mut [u8], waiting: usize, value: u64) -> usize {
     let mut digits = [0u8; 20];
     let count = io::decimal(value, &mut digits);
     put_all(text, waiting, &digits[..count])

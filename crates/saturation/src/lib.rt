@@ -11,9 +11,9 @@ ghost use Rattle.saturation.specs.Same.{listNeighbors};
 use graph::Checked;
 use graph::Coloring;
 use graph::days_of;
-use incidence::incidence_front;
 use greedy::check_edges;
 use greedy::check_nodes;
+use incidence::incidence_front;
 use items::Kind;
 use turns::run;
 

@@ -1,0 +1,34 @@
+-- `put_line` meets its contract: four numbers, each with the byte that follows it.
+use borrow.Author.Needs.{needs}
+use Rattle.matchday_text.specs.PutLaws.{line-first, line-second, line-third, line-fourth, line-put}
+use Rattle.matchday_text.proofs.lines.put_line.Statement.{statement}
+use Rattle.matchday_text.proofs.lines.put_line.Tie as tie
+
+put-number-requires : tie.Need-put-number-requires
+put-number-requires c κs = line-first (c .before .before .before .args .text .now) _ _ _ _ _ (c .before .before .before .pre)
+
+put-number-requires-2 : tie.Need-put-number-requires-2
+put-number-requires-2 c κs = line-second _ _ _ _ _ _ (c .before .before .before .before .before .before .before .before .pre) _ _ (c .before .before .before .before .put-number .ensures)
+
+put-number-requires-3 : tie.Need-put-number-requires-3
+put-number-requires-3 c κs = line-third _ _ _ _ _ _ (c .before .before .before .before .before .before .before .before .before .before .before .before .before .pre) _ _ (c .before .before .before .before .before .before .before .before .before .put-number .ensures) _ _ (c .before .before .before .before .put-number2 .ensures)
+
+put-number-requires-4 : tie.Need-put-number-requires-4
+put-number-requires-4 c κs = line-fourth _ _ _ _ _ _ (c .before .before .before .before .before .before .before .before .before .before .before .before .before .before .before .before .before .pre) _ _ (c .before .before .before .before .before .before .before .before .before .before .before .before .before .put-number .ensures) _ _ (c .before .before .before .before .before .before .before .before .put-number2 .ensures) _ _ (c .before .before .before .put-number3 .ensures)
+
+returns : tie.Need-returns
+returns c = line-put _ _ _ _ _ _ (c .before .before .before .before .before .before .before .before .before .before .before .before .before .before .before .before .before .before .before .before .pre) _ _ (c .before .before .before .before .before .before .before .before .before .before .before .before .before .before .before .before .put-number .ensures) _ _ (c .before .before .before .before .before .before .before .before .before .before .before .put-number2 .ensures) _ _ (c .before .before .before .before .before .before .put-number3 .ensures) _ _ (c .before .before .put-number4 .ensures)
+
+pub put-line-spec : {M : Type 1} → statement M
+put-line-spec =
+    tie.close
+    (tie.spec
+    (λ c. search needs)
+    put-number-requires
+    (λ c. search needs)
+    put-number-requires-2
+    (λ c. search needs)
+    put-number-requires-3
+    put-number-requires-4
+    (λ c. search needs)
+    returns)

@@ -1,0 +1,46 @@
+-- `matchday_text` meets its contract: the text of the graph that was read, or of refusal 10.
+use mathlib.Core.Path.{_≡_, refl, sym}
+use mathlib.Core.Bool.{true}
+use native.Mathlib.Omega.{arith}
+use lib.Seq.{length-take-le}
+use borrow.Author.Needs.{needs}
+use Rattle.lists.specs.Search.{allBelow, below-all}
+use Rattle.matchday_text.specs.FileText.{unread-room, unread-text, read-edges, read-text}
+use Rattle.matchday_text.proofs.matchday_text.Statement.{statement}
+use Rattle.matchday_text.proofs.matchday_text.Tie as tie
+
+bytes-below : (c : tie.After-shared-slice-known) → allBelow 256 (c .before .args .bytes .now) ≡ true
+bytes-below c = below-all 256 (c .before .args .bytes .now) (λ i h. omega (arith, c .shared-slice-known .given i))
+
+put-refused-requires : tie.Need-put-refused-requires
+put-refused-requires c κs = unread-room _ _ _ _ refl (c .before .before .before .before .before .before .read-graph-file .ensures .1 .1) _ (c .before .before .before .refusal .given .1) _ (c .number .ensures) (bytes-below (c .before .before .before .before .before .before .before .before .before))
+
+mul-count : tie.Need-mul-count
+mul-count c = omega (arith, read-edges _ _ _ _ refl (c .before .before .before .before .read-graph-file .ensures .1 .1) _ _ _ (c .before .nodes .given .1))
+
+array-share-prefix-ends : tie.Need-array-share-prefix-ends
+array-share-prefix-ends c = omega (arith, read-edges _ _ _ _ refl (c .before .before .before .before .read-graph-file .ensures .1 .1) _ _ _ (c .before .nodes .given .1))
+
+slice-aggregate-graph-text : tie.Need-slice-aggregate-graph-text
+slice-aggregate-graph-text c = sym (length-take-le _ _ (omega (arith, c .before .before .before .before .before .read-graph-file .kept .1 .0, read-edges _ _ _ _ refl (c .before .before .before .before .before .read-graph-file .ensures .1 .1) _ _ _ (c .before .before .nodes .given .1))))
+
+returns : tie.Need-returns
+returns c = unread-text _ _ _ _ refl (c .before .before .before .before .before .before .before .before .before .read-graph-file .ensures .1 .1) _ (c .before .before .before .before .before .before .refusal .given .1) _ (c .before .before .before .number .ensures) (bytes-below (c .before .before .before .before .before .before .before .before .before .before .before .before)) _ _ _ (c .before .before .put-refused .ensures)
+
+returns-2 : tie.Need-returns-2
+returns-2 c = read-text _ _ _ _ refl (c .before .before .before .before .before .before .before .before .before .read-graph-file .ensures .1 .1) _ _ _ (c .before .before .before .before .before .before .nodes .given .1) _ _ _ (c .before .before .graph-text .ensures .0) (c .before .before .graph-text .ensures .1)
+
+pub matchday-text-spec : {M : Type 1} → statement M
+matchday-text-spec =
+    tie.close
+    (tie.spec
+    (λ c. search needs) (λ c κs. search needs) (λ c. search needs) (λ c κs. search needs) (λ c. search needs)
+    put-refused-requires
+    (λ c. search needs)
+    mul-count
+    array-share-prefix-ends
+    slice-aggregate-graph-text
+    (λ c κs. search needs) (λ c. search needs)
+    returns
+    (λ c. search needs)
+    returns-2)

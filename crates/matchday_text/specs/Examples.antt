@@ -1,0 +1,64 @@
+-- Texts worked out: numbers, a refusal, and the paper's whole example.
+use mathlib.Core.Path.{_≡_, refl, ap, _∙_}
+use mathlib.Core.List.{List, [], _∷_, _++_}
+use mathlib.Core.Option.{bind}
+use Prim.Native.Nat.{ℕ}
+use native.Mathlib.Omega.{arith}
+use lib.ListN.{replicate}
+use Rattle.graph.specs.Edges.{firstEnd, secondEnd}
+use Rattle.graph.specs.Color.{daysOf}
+use Rattle.graph.specs.Colored.{noColor, colorOf}
+use Rattle.graph_file.specs.File.{fileOf, fields, fieldsUpTo, graphOf}
+use Rattle.graph_file.specs.Layout.{graphBytes, fieldBytes, bytesOf, bytes16}
+use Rattle.graph_file.specs.LayoutLaws.{read-bytes}
+use Rattle.vizing.specs.Checks.{checks-pass}
+use Rattle.vizing.specs.Demand3Examples.{listP13, p13-admitted, p13-colors, runs}
+use Rattle.matchday_text.specs.Text.{digits, decimal, followed, line, matchLine, matchLines, daysText, refusedText, coloredText, fileText}
+use Rattle.matchday_text.specs.Bound.{accepts}
+use Rattle.matchday_text.specs.FileText.{file-text, no-file-text}
+
+pub numbers :
+    (decimal 0 ≡ 48 ∷ [])
+    × (decimal 9 ≡ 57 ∷ [])
+    × (decimal 10 ≡ 49 ∷ 48 ∷ [])
+    × (decimal 512 ≡ 53 ∷ 49 ∷ 50 ∷ [])
+    × (decimal 65535 ≡ 54 ∷ 53 ∷ 53 ∷ 51 ∷ 53 ∷ [])
+unfolding decimal digits
+numbers = (refl, refl, refl, refl, refl)
+
+-- "01 02 00 04 00 02 10 00 ..": the file of P13's list.
+abbrev pub exampleFile : List ℕ
+exampleFile = 1 ∷ 2 ∷ 0 ∷ 4 ∷ 0 ∷ 2 ∷ 16 ∷ 0 ∷ 0 ∷ 0 ∷ 1 ∷ 0 ∷ 1 ∷ 0 ∷ 2 ∷ 0 ∷ 0 ∷ 0 ∷ 2 ∷ 0 ∷ 2 ∷ 0 ∷ 3 ∷ 0 ∷ []
+
+-- "days 3", "0 0 1 2", "1 1 2 1", "2 0 2 0", "3 2 3 2"
+abbrev pub exampleText : List ℕ
+exampleText =
+    (100 ∷ 97 ∷ 121 ∷ 115 ∷ 32 ∷ 51 ∷ 10 ∷ [])
+    ++ (48 ∷ 32 ∷ 48 ∷ 32 ∷ 49 ∷ 32 ∷ 50 ∷ 10 ∷ [])
+    ++ (49 ∷ 32 ∷ 49 ∷ 32 ∷ 50 ∷ 32 ∷ 49 ∷ 10 ∷ [])
+    ++ (50 ∷ 32 ∷ 48 ∷ 32 ∷ 50 ∷ 32 ∷ 48 ∷ 10 ∷ [])
+    ++ (51 ∷ 32 ∷ 50 ∷ 32 ∷ 51 ∷ 32 ∷ 50 ∷ 10 ∷ [])
+
+example-file : exampleFile ≡ graphBytes 4 listP13
+unfolding graphBytes fieldBytes bytesOf bytes16
+example-file = refl
+
+example-lines : daysText 3 listP13 (2 ∷ 1 ∷ 0 ∷ 2 ∷ []) ≡ exampleText
+unfolding daysText matchLines matchLine line followed decimal digits firstEnd secondEnd colorOf
+example-lines = refl
+
+example-colored : coloredText 4 listP13 ≡ exampleText
+unfolding coloredText daysOf
+example-colored =
+    accepts 4 listP13 (replicate 4 noColor) (checks-pass 4 listP13 (replicate 4 noColor) p13-admitted refl)
+    ∙ ap (daysText _ listP13) p13-colors
+    ∙ ap (λ (cs : List ℕ). daysText (daysOf cs) listP13 (2 ∷ 1 ∷ 0 ∷ 2 ∷ [])) (runs .3)
+    ∙ example-lines
+
+pub example : fileText exampleFile ≡ exampleText
+example = file-text exampleFile (record { nodes = 4; ends = listP13; tags = 3 }) (ap fileOf example-file ∙ read-bytes 4 listP13 refl (omega arith)) ∙ example-colored
+
+-- No bytes at all: "refused 10".
+pub no-bytes : fileText [] ≡ 114 ∷ 101 ∷ 102 ∷ 117 ∷ 115 ∷ 101 ∷ 100 ∷ 32 ∷ 49 ∷ 48 ∷ 10 ∷ []
+unfolding bind fileOf fields fieldsUpTo graphOf refusedText followed decimal digits
+no-bytes = no-file-text [] refl

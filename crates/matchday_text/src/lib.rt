@@ -1,0 +1,68 @@
+// The text that the program prints for a graph and for a file.
+ghost use mathlib.Core.Path.{_≡_};
+ghost use Prim.Native.Nat.{_/_, min};
+ghost use lib.ListN.{length};
+ghost use Rattle.lists.specs.Parts.{copiedOver};
+ghost use Rattle.vizing.specs.MisraGries.{misraGries};
+ghost use Rattle.matchday_text.specs.Text.{outcomeText, coloredText, fileText};
+use graph::Color;
+use graph::Coloring;
+use graph_file::FileAnswer;
+use graph_file::read_graph_file;
+use lines::put_days;
+use lines::put_refused;
+use misra_gries::misra_gries_edge_color;
+
+mod lines;
+mod put;
+
+// The text of a call that is lent these colour places.
+fn outcome_text(n: usize, ends: &[u16], colors: &mut [u16], text: &mut [u8]) -> usize
+    ensures { λ r. ⌜ r ≡ length (outcomeText (now (ends .entry)) (misraGries n (now (ends .entry)) (now (colors .entry)))) ⌝ }
+    ensures { λ _. ⌜ now (text .exit) ≡ copiedOver (outcomeText (now (ends .entry)) (misraGries n (now (ends .entry)) (now (colors .entry)))) (now (text .entry)) ⌝ }
+{
+    match misra_gries_edge_color(n, ends, colors) {
+        Coloring::Refused(refusal) => put_refused(text, refusal.number() as usize),
+        Coloring::Accepted { days } => put_days(text, days, ends, colors),
+    }
+}
+
+// The edges that a list of this many ends has, 4,096 at most: a longer list is refused whatever is lent.
+fn lent_places(ends: usize) -> usize
+    ensures { λ r. ⌜ r ≡ min (ends / 2) 4096 ⌝ }
+{
+    let edges = ends / 2;
+    if edges < 4096 {
+        return edges;
+    }
+    4096
+}
+
+// The text of a graph: as much of it as there is room for, and its whole length.
+pub fn graph_text(n: usize, ends: &[u16], text: &mut [u8]) -> usize
+    ensures { λ r. ⌜ r ≡ length (coloredText n (now (ends .entry))) ⌝ }
+    ensures { λ _. ⌜ now (text .exit) ≡ copiedOver (coloredText n (now (ends .entry))) (now (text .entry)) ⌝ }
+{
+    let mut colors = [Color::NONE; 4096];
+    let m = lent_places(ends.len());
+    outcome_text(n, ends, &mut colors[..m], text)
+}
+
+// The text of a file: as much of it as there is room for, and its whole length.
+pub fn matchday_text(bytes: &[u8], text: &mut [u8]) -> usize
+    ensures { λ r. ⌜ r ≡ length (fileText (now (bytes .entry))) ⌝ }
+    ensures { λ _. ⌜ now (text .exit) ≡ copiedOver (fileText (now (bytes .entry))) (now (text .entry)) ⌝ }
+{
+    let mut ends = [0u16; 8192];
+    match read_graph_file(bytes, &mut ends) {
+        FileAnswer::Refused(refusal) => put_refused(text, refusal.number() as usize),
+        FileAnswer::Accepted {
+            nodes,
+            edges,
+            tags: _,
+        } => {
+            let count = 2 * edges;
+            graph_text(nodes, &ends[..count], text)
+        }
+    }
+}
