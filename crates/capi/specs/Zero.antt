@@ -1,17 +1,16 @@
 -- 0 means accepted, of every function: no check refuses by 0.
-use Prim.Native.Nat.{ℕ, _<_}
+use Prim.Native.Nat.{ℕ}
 use mathlib.Core.Path.{_≡_, refl, sym, ap, _∙_}
 use mathlib.Core.List.{List, [], _∷_, _++_}
-use mathlib.Core.Bool.{Bool, true, false, _&&_}
+use mathlib.Core.Bool.{Bool, true}
 use mathlib.Core.Option.{Option, none, some}
 use native.Mathlib.Omega.{arith}
 use lib.Dec.{ltb}
 use lib.ListN.{length}
 use borrow.Author.Tests.{ltb-true}
-use Rattle.lists.specs.Tests.{and-true}
 use Rattle.graph.specs.Report.{Report, Accepted}
 use Rattle.graph.specs.Check.{Check, _gives_, firstRefusal, answered, graphChecks, lengthCheck}
-use Rattle.graph.specs.CheckLaws.{answered-accepted, answered-refused}
+use Rattle.graph.specs.CheckLaws.{numbersPass, refusal-passes, answered-accepted, answered-refused}
 use Rattle.graph.specs.Edges.{edgeCount, neighbors}
 use Rattle.graph.specs.Table.{incidenceChecks, incidenceOf}
 use Rattle.graph.specs.Color.{Outcome, colored}
@@ -26,57 +25,50 @@ use Rattle.capi.specs.Answer.{code}
 use Rattle.capi.specs.Strategy.{strategyOf, unknownStrategy, byNumber, nodesByNumber, edgesByNumber}
 
 -- Every check of a list refuses by a number above 0.
-unfoldable aboveZero : List Check → Bool
-aboveZero [] = true
-aboveZero ((b gives k) ∷ checks) = ltb 0 k && aboveZero checks
-
-refusal-above : (checks : List Check) (k : ℕ) → aboveZero checks ≡ true → firstRefusal checks ≡ some k → 0 < k
-unfolding aboveZero firstRefusal
-refusal-above [] k a e = let z : _≡_ {A = ℕ} 0 1 = cc in absurd (omega arith)
-refusal-above ((true gives j) ∷ checks) k a e = let i : j ≡ k = cc in omega (arith, ltb-true 0 j (and-true (ltb 0 j) (aboveZero checks) a .0))
-refusal-above ((false gives j) ∷ checks) k a e = refusal-above checks k (and-true (ltb 0 j) (aboveZero checks) a .1) e
+abbrev aboveZero : List Check → Bool
+aboveZero checks = numbersPass (ltb 0) checks
 
 zero-accepted : {A : Type 0} (checks : List Check) (values : A) → aboveZero checks ≡ true → code (answered checks values) ≡ 0 → Accepted (answered checks values)
 zero-accepted checks values a e = go (firstRefusal checks) refl
   where
     go : (o : Option ℕ) → firstRefusal checks ≡ o → Accepted (answered checks values)
     go none f = (values, sym (answered-accepted checks values f))
-    go (some k) f = let q : k ≡ 0 = ap code (answered-refused checks k values f) ∙ e in absurd (omega (arith, refusal-above checks k a f))
+    go (some k) f = let q : k ≡ 0 = ap code (answered-refused checks k values f) ∙ e in absurd (omega (arith, ltb-true 0 k (refusal-passes (ltb 0) checks k a f)))
 
 -- A caller knows by the number alone whether this outcome is an acceptance.
 abbrev ZeroAccepts : {A : Type 0} → Report A → Type 0
 ZeroAccepts report = code report ≡ 0 → Accepted report
 
 pub read-file-zero : (bytes lent : List ℕ) → ZeroAccepts (readFile bytes lent .report)
-unfolding readFile fileChecks aboveZero
+unfolding readFile fileChecks numbersPass
 read-file-zero bytes lent = zero-accepted (fileChecks bytes lent) _ refl
 
 module _ (n : ℕ) (ends : List ℕ) where
   pub incidence-zero : (starts entries : List ℕ) → ZeroAccepts (incidenceOf n ends starts entries .report)
-  unfolding incidenceOf incidenceChecks graphChecks aboveZero
+  unfolding incidenceOf incidenceChecks graphChecks numbersPass
   incidence-zero starts entries = zero-accepted (incidenceChecks n ends starts entries) _ refl
 
   pub line-graph-zero : (list : List ℕ) → ZeroAccepts (lineGraph n ends list .report)
-  unfolding lineGraph lineChecks graphChecks aboveZero
+  unfolding lineGraph lineChecks graphChecks numbersPass
   line-graph-zero list = zero-accepted (lineChecks n ends list) _ refl
 
   pub two-color-zero : (colors : List ℕ) → ZeroAccepts (twoColor n ends colors .report)
-  unfolding twoColor inputChecks graphChecks colored aboveZero
+  unfolding twoColor inputChecks graphChecks colored numbersPass
   two-color-zero colors = zero-accepted (inputChecks n ends colors ++ (oddCycle ends (edgeCount ends) gives 8) ∷ []) _ refl
 
   pub misra-gries-zero : (colors : List ℕ) → ZeroAccepts (misraGries n ends colors .report)
-  unfolding misraGries misraGriesChecks graphChecks colored aboveZero
+  unfolding misraGries misraGriesChecks graphChecks colored numbersPass
   misra-gries-zero colors = zero-accepted (misraGriesChecks n ends colors) _ refl
 
   -- ---- greedy colouring
 
   module _ (rule : Rule) (nb : ℕ → List ℕ) (items : ℕ) where
     items-zero : (presets colors : List ℕ) → ZeroAccepts (greedyItems rule nb items n ends presets colors .report)
-    unfolding greedyItems itemChecks graphChecks colored aboveZero
+    unfolding greedyItems itemChecks graphChecks colored numbersPass
     items-zero presets colors = zero-accepted (itemChecks n ends items (length presets) (length colors)) _ refl
 
     plain-zero : (colors : List ℕ) → ZeroAccepts (greedyItemsPlain rule nb items n ends colors .report)
-    unfolding greedyItemsPlain graphChecks colored aboveZero
+    unfolding greedyItemsPlain graphChecks colored numbersPass
     plain-zero colors = zero-accepted (graphChecks n ends ++ lengthCheck (length colors) items ∷ []) _ refl
 
   pub nodes-plain-zero : (rule : Rule) (colors : List ℕ) → ZeroAccepts (greedyNodesPlain rule n ends colors .report)
@@ -96,7 +88,7 @@ module _ (n : ℕ) (ends : List ℕ) where
   edges-zero rule = items-zero rule (edgeNeighbors n ends) (edgeCount ends)
 
   unknown-zero : (items : ℕ) (presets colors : List ℕ) → ZeroAccepts (unknownStrategy items n ends presets colors .report)
-  unfolding unknownStrategy itemChecks graphChecks colored aboveZero
+  unfolding unknownStrategy itemChecks graphChecks colored numbersPass
   unknown-zero items presets colors = zero-accepted (itemChecks n ends items (length presets) (length colors) ++ (true gives 255) ∷ []) _ refl
 
   by-number-zero : (number : ℕ) (call : Rule → Outcome) (other : Outcome) → ((rule : Rule) → ZeroAccepts (call rule .report)) → ZeroAccepts (other .report) → ZeroAccepts (byNumber number call other .report)

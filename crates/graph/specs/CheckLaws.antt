@@ -3,13 +3,13 @@ use Prim.Native.Nat.{ℕ, _+_, _*_, _≤_, _<_, _%_, _/_}
 use mathlib.Core.Path.{_≡_, refl, sym, ap, _∙_}
 use mathlib.Core.List.{List, [], _∷_, _++_}
 use mathlib.Core.Logic.{_⊎_, inl, inr}
-use mathlib.Core.Bool.{Bool, true, false, not}
+use mathlib.Core.Bool.{Bool, true, false, not, _&&_}
 use mathlib.Core.Option.{Option, none, some}
 use native.Mathlib.Omega.{arith}
 use lib.ListN.{length, getD}
 use lib.Dec.{ltb, eqb}
 use borrow.Author.Tests.{lt-ltb, le-ltb, eq-eqb, ne-eqb, ltb-false, eqb-true, eqb-false, not-false}
-use Rattle.lists.specs.Tests.{by-test}
+use Rattle.lists.specs.Tests.{by-test, and-true}
 use Rattle.lists.specs.Search.{allBelow, all-below-at, below-all}
 use Rattle.graph.specs.Report.{accepted, refused, number, reportOfChecked}
 use Rattle.graph.specs.Check.{Check, _gives_, firstRefusal, answered, written, graphChecks, lengthCheck, checkGraph}
@@ -61,6 +61,18 @@ unfolding firstRefusal
 passed-both [] ds e = (refl, e)
 passed-both ((true gives j) ∷ cs) ds e = let z : _≡_ {A = ℕ} 0 1 = cc in absurd (omega arith)
 passed-both ((false gives j) ∷ cs) ds e = passed-both cs ds e
+
+-- Every number by which a check of the list may refuse passes the test.
+unfoldable pub numbersPass : (ℕ → Bool) → List Check → Bool
+numbersPass test [] = true
+numbersPass test ((b gives k) ∷ checks) = test k && numbersPass test checks
+
+-- So does the number of the first that refuses.
+pub refusal-passes : (test : ℕ → Bool) (checks : List Check) (k : ℕ) → numbersPass test checks ≡ true → firstRefusal checks ≡ some k → test k ≡ true
+unfolding numbersPass firstRefusal
+refusal-passes test [] k a e = let z : _≡_ {A = ℕ} 0 1 = cc in absurd (omega arith)
+refusal-passes test ((true gives j) ∷ checks) k a e = let i : j ≡ k = cc in rw i at (and-true (test j) (numbersPass test checks) a .0)
+refusal-passes test ((false gives j) ∷ checks) k a e = refusal-passes test checks k (and-true (test j) (numbersPass test checks) a .1) e
 
 pub first-refuses : (b : Bool) (k : ℕ) (cs : List Check) → b ≡ true → firstRefusal ((b gives k) ∷ cs) ≡ some k
 unfolding firstRefusal

@@ -13,7 +13,7 @@ use Rattle.lists.specs.Tests.{and-true}
 use Rattle.lists.specs.Member.{Mem, place-of}
 use Rattle.graph.specs.Report.{accepted}
 use Rattle.graph.specs.Check.{Check, _gives_, firstRefusal, graphChecks}
-use Rattle.graph.specs.CheckLaws.{answered-accepted, answered-refused}
+use Rattle.graph.specs.CheckLaws.{numbersPass, refusal-passes, answered-accepted, answered-refused}
 use Rattle.graph.specs.Edges.{edgeCount, firstEnd, secondEnd}
 use Rattle.graph.specs.Color.{colored, daysOf, last-day}
 use Rattle.graph.specs.Colored.{noColor, colorOf}
@@ -78,19 +78,9 @@ refused-length number h = append-bound refusedWord (followed number lineFeed) 8 
 
 -- ---- the numbers of the checks
 
-unfoldable numbersBelow : ℕ → List Check → Bool
-numbersBelow b [] = true
-numbersBelow b ((t gives k) ∷ checks) = ltb k b && numbersBelow b checks
-
-number-below : (b : ℕ) (checks : List Check) (k : ℕ) → numbersBelow b checks ≡ true → firstRefusal checks ≡ some k → k < b
-unfolding numbersBelow firstRefusal
-number-below b [] k p e = let z : _≡_ {A = ℕ} 0 1 = cc in absurd (omega arith)
-number-below b ((true gives j) ∷ checks) k p e = let i : j ≡ k = cc in rw i at (ltb-true j b (and-true (ltb j b) (numbersBelow b checks) p .0))
-number-below b ((false gives j) ∷ checks) k p e = number-below b checks k (and-true (ltb j b) (numbersBelow b checks) p .1) e
-
 pub refused-below : (n : ℕ) (ends lent : List ℕ) (k : ℕ) → firstRefusal (misraGriesChecks n ends lent) ≡ some k → k < 8
-unfolding misraGriesChecks graphChecks numbersBelow
-refused-below n ends lent k e = number-below 8 (misraGriesChecks n ends lent) k refl e
+unfolding misraGriesChecks graphChecks numbersPass
+refused-below n ends lent k e = ltb-true k 8 (refusal-passes (λ (j : ℕ). ltb j 8) (misraGriesChecks n ends lent) k refl e)
 
 -- ---- the days
 
@@ -144,16 +134,6 @@ module _ (n : ℕ) (ends lent : List ℕ) where
           color = λ k h. omega (arith, colors-below a (p .1) k h);
         }))
     | inr (k, e) ↦ rw (refuses k e) (omega (arith, refused-length k (omega (arith, refused-below n ends lent k e))))
-  ]
-
-  pub accepted-edges : (days : ℕ) → misraGries n ends lent .report ≡ accepted days → edgeCount ends ≤ 4096
-  unfolding misraGries colored
-  accepted-edges days e = elim (some-or-none (firstRefusal (misraGriesChecks n ends lent))) [
-    | inl p ↦ passed-admitted n ends lent p .0 .edges
-    | inr (k, p) ↦
-        let q = answered-refused (misraGriesChecks n ends lent) k (daysOf (take (edgeCount ends) (held n ends (edgeCount ends)))) p in
-        let z : _≡_ {A = ℕ} 0 1 = cc in
-        absurd (omega arith)
   ]
 
 pub colored-bound : (n : ℕ) (ends : List ℕ) → length (coloredText n ends) ≤ 98330

@@ -17,11 +17,12 @@ use Rattle.graph.specs.Colored.{noColor}
 use Rattle.graph.specs.declared.Refusal.{Refusal}
 use Rattle.graph.specs.declared.Coloring.{Coloring}
 use Rattle.graph.specs.declared.Coloring.the-variants as O
+use Rattle.misra_gries.specs.Call.{DateTable}
 use Rattle.vizing.specs.MisraGries.{misraGries, misraGriesChecks}
 use Rattle.vizing.specs.DefinitionLaws.{some-or-none}
 use Rattle.matchday_text.specs.Text.{daysText, refusedText, reportText, outcomeText, coloredText}
 use Rattle.matchday_text.specs.Put.{Put, Room, put-front}
-use Rattle.matchday_text.specs.Bound.{outcome-bound, refuses, accepted-edges}
+use Rattle.matchday_text.specs.Bound.{outcome-bound, refuses}
 
 -- ---- the answers of a call
 
@@ -58,8 +59,8 @@ module _ (n : ℕ) (ends lent : List ℕ) where
     accepted-whole : whole ≡ daysText days ends colors
     accepted-whole = accepted-answer ends (misraGries n ends lent) c days colors e p q
 
-    pub accepted-room : (edgeCount ends ≤ 65535) × Room 0 (daysText days ends colors)
-    accepted-room = (omega (arith, accepted-edges n ends lent days (sym e ∙ ap reportOfColoring p)), room (daysText days ends colors) accepted-whole)
+    pub accepted-room : DateTable n ends lent (reportOfColoring c) colors → (edgeCount ends ≤ 65535) × Room 0 (daysText days ends colors)
+    accepted-room dates = (omega (arith, dates .admits days (ap reportOfColoring p) .0 .edges), room (daysText days ends colors) accepted-whole)
 
     pub accepted-text : (before after : List ℕ) (end : ℕ) → Put before 0 (daysText days ends colors) after end → (end ≡ length whole) × (after ≡ copiedOver whole before)
     accepted-text before after end put = done (daysText days ends colors) before after end accepted-whole put

@@ -20,7 +20,8 @@ use Rattle.graph.specs.declared.Checked.the-variants as C
 use Rattle.vizing.specs.MisraGries.{held, simpleChecks, misraGriesChecks, misraGries}
 use Rattle.vizing.specs.Demand3.{Admitted}
 use Rattle.vizing.specs.Theorem.{demand3}
-use Rattle.simple_graph.specs.Simple.{checkSimple, simple-admitted, simple-refused, simple-accepted}
+use Rattle.vizing.specs.Checks.{simple-admitted, passed-admitted}
+use Rattle.simple_graph.specs.Simple.{checkSimple, simple-refused, simple-accepted}
 use Rattle.misra_gries.specs.Call.{Demand3Of, DateTable}
 
 -- ---- the whole call
@@ -66,8 +67,8 @@ module _ (n : ℕ) (ends lent : List ℕ) where
         simple-no r h = refuses (number r) (after-length ∙ simple-refused n ends s f r (graph-accepted n ends c g e p .0) h)
 
         module _ (i : Graph) (h : s ≡ C.Accepted i) where
-          pub simple-yes : Passed n ends × Admitted n ends
-          simple-yes = (graph-yes, simple-admitted n ends graph-yes (simple-accepted n ends s f i h))
+          pub simple-yes : Admitted n ends
+          simple-yes = simple-admitted n ends graph-yes (simple-accepted n ends s f i h)
 
           pub colored-yes : (r : Report ℕ) (colors : List ℕ) → r ≡ accepted (daysOf (take (edgeCount ends) (held n ends (edgeCount ends)))) → colors ≡ take (edgeCount ends) (held n ends (edgeCount ends)) → Meets r colors
           unfolding misraGries colored
@@ -77,19 +78,11 @@ module _ (n : ℕ) (ends lent : List ℕ) where
 
   -- ---- demand 3
 
-  -- What passed every check.
-  checks-passed : firstRefusal (misraGriesChecks n ends lent) ≡ none → Admitted n ends × (length lent ≡ edgeCount ends)
-  unfolding misraGriesChecks
-  checks-passed e =
-      let b = passed-both (graphChecks n ends) (lengthCheck (length lent) (edgeCount ends) ∷ simpleChecks ends) e in
-      let l = passed-one (not (eqb (length lent) (edgeCount ends))) 5 (simpleChecks ends) (b .1) in
-      (simple-admitted n ends (passed n ends (b .0)) (l .1), eqb-true (length lent) (edgeCount ends) (not-false (eqb (length lent) (edgeCount ends)) (l .0)))
-
   admitted : (r : Report ℕ) (days : ℕ) → r ≡ misraGries n ends lent .report → r ≡ accepted days → Admitted n ends × (length lent ≡ edgeCount ends)
   admitted r days p e = go (firstRefusal (misraGriesChecks n ends lent)) refl
     where
       go : (o : Option ℕ) → firstRefusal (misraGriesChecks n ends lent) ≡ o → Admitted n ends × (length lent ≡ edgeCount ends)
-      go none f = checks-passed f
+      go none f = passed-admitted n ends lent f
       go (some k) f = let q = refuses k f .0 in let z : _≡_ {A = ℕ} 0 1 = cc in absurd (omega arith)
 
   pub date-table : (r : Report ℕ) (colors : List ℕ) → r ≡ misraGries n ends lent .report → colors ≡ misraGries n ends lent .colors → DateTable n ends lent r colors

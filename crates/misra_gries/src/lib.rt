@@ -5,7 +5,6 @@ ghost use Prim.Native.Nat.{_+_, _≤_};
 ghost use lib.Dec.{eqb};
 ghost use lib.ListN.{length, take};
 ghost use Rattle.graph.specs.Report.{accepted, reportOfColoring};
-ghost use Rattle.graph.specs.CheckLaws.{Passed};
 ghost use Rattle.graph.specs.Edges.{edgeCount};
 ghost use Rattle.graph.specs.Color.{daysOf};
 ghost use Rattle.graph.specs.StretchLaws.{Table};
@@ -68,7 +67,7 @@ fn color_simple(
 
 // The same, the incidence table made first.
 fn color_admitted(n: usize, ends: &[u16], colors: &mut [u16]) -> Coloring
-    requires { ⌜ Passed n (now ends) × Admitted n (now ends) ⌝ }
+    requires { ⌜ Admitted n (now ends) ⌝ }
     requires { ⌜ length (now colors) ≡ edgeCount (now ends) ⌝ }
     ensures { λ r. ⌜ reportOfColoring r ≡ accepted (daysOf (take (edgeCount (now (ends .entry))) (held n (now (ends .entry)) (edgeCount (now (ends .entry)))))) ⌝ }
     ensures { λ _. ⌜ now (colors .exit) ≡ take (edgeCount (now (ends .entry))) (held n (now (ends .entry)) (edgeCount (now (ends .entry)))) ⌝ }

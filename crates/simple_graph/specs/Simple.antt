@@ -6,15 +6,13 @@ use mathlib.Core.Bool.{Bool, true, false}
 use mathlib.Core.Option.{none, some}
 use Rattle.graph.specs.Report.{Report, accepted, refused, number, reportOfChecked}
 use Rattle.graph.specs.Check.{Check, _gives_, firstRefusal, answered, graphChecks, checkGraph}
-use Rattle.graph.specs.CheckLaws.{Passed, passed, passed-inside, refused-first, passed-first, passed-both, passed-one, first-refuses, first-passes, all-passed, answered-refused, answered-accepted, checked-refused, checked-accepted, graph-refused, graph-accepted}
+use Rattle.graph.specs.CheckLaws.{Passed, passed, refused-first, passed-first, passed-both, first-refuses, first-passes, all-passed, answered-refused, answered-accepted, checked-refused, checked-accepted, graph-refused, graph-accepted}
 use Rattle.graph.specs.Edges.{edgeCount}
 use Rattle.graph.specs.declared.Refusal.{Refusal}
 use Rattle.graph.specs.declared.Graph.{Graph}
 use Rattle.graph.specs.declared.Checked.{Checked}
 use Rattle.graph.specs.declared.Checked.the-variants as C
 use Rattle.vizing.specs.MisraGries.{hasLoop, hasDoubleEdge, simpleChecks}
-use Rattle.vizing.specs.Demand3.{Admitted}
-use Rattle.vizing.specs.Simple.{passed-simple}
 
 -- "graph checks, .. 6 if a loop exists, 7 if a double edge exists": they report n and m.
 unfoldable pub checkSimple : ℕ → List ℕ → Report (ℕ × ℕ)
@@ -56,13 +54,6 @@ module _ (n : ℕ) (ends : List ℕ) where
         rw (q .1, q .2) (answered-accepted checks (n, edgeCount ends) (after-loop b f h ∙ (first-passes (hasDoubleEdge ends (edgeCount ends)) 7 [] (sym j ∙ k) ∙ all-passed)))
 
 -- ---- what the answer tells
-
--- What passed every check is one of demand 3's graphs.
-pub simple-admitted : (n : ℕ) (ends : List ℕ) → Passed n ends → firstRefusal (simpleChecks ends) ≡ none → Admitted n ends
-simple-admitted n ends p e =
-    let o = passed-one (hasLoop ends (edgeCount ends)) 6 ((hasDoubleEdge ends (edgeCount ends) gives 7) ∷ []) e in
-    let d = passed-one (hasDoubleEdge ends (edgeCount ends)) 7 [] (o .1) in
-    record { nodes = p .nodes; even = p .even; edges = p .edges; inside = passed-inside n ends p; simple = passed-simple ends (edgeCount ends) (o .0) (d .0) }
 
 module _ (n : ℕ) (ends : List ℕ) (c : Checked) (e : reportOfChecked c ≡ checkSimple n ends) where
   -- After graph checks that passed, a refusal is 6 or 7.

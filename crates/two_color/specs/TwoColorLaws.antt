@@ -7,12 +7,12 @@ use mathlib.Core.Bool.{true, false, not}
 use mathlib.Core.Option.{Option, none, some}
 use native.Mathlib.Omega.{arith}
 use lib.ListN.{length, getD}
-use lib.Dec.{eqb}
-use borrow.Author.Tests.{eq-eqb, ne-eqb}
+use lib.Dec.{eqb, leb}
+use borrow.Author.Tests.{eq-eqb, ne-eqb, leb-true}
 use Rattle.lists.specs.Tests.{by-test}
 use Rattle.graph.specs.Report.{Report, accepted, refused, Accepted, number, reportOfChecked}
 use Rattle.graph.specs.Check.{Check, _gives_, firstRefusal, answered, written, graphChecks, lengthCheck, checkGraph}
-use Rattle.graph.specs.CheckLaws.{Passed, passed, passed-inside, sized-passed, passed-sized, refused-first, passed-first, first-refuses, first-passes, all-passed, answered-refused, answered-accepted, written-refused, written-accepted, graph-refused, graph-accepted}
+use Rattle.graph.specs.CheckLaws.{numbersPass, refusal-passes, Passed, passed, passed-inside, sized-passed, passed-sized, refused-first, passed-first, first-refuses, first-passes, all-passed, answered-refused, answered-accepted, written-refused, written-accepted, graph-refused, graph-accepted}
 use Rattle.graph.specs.Edges.{edgeCount, firstEnd, secondEnd}
 use Rattle.graph.specs.Color.{colored, daysOf}
 use Rattle.graph.specs.declared.Refusal.{Refusal}
@@ -45,17 +45,6 @@ sides-fit n ends s m e =
 
 -- ---- the whole call
 
--- No check of a list refuses by more than this number.
-abbrev AtMost : ℕ → List Check → Type 0
-AtMost most [] = Unit {0}
-AtMost most ((b gives k) ∷ checks) = (k ≤ most) × AtMost most checks
-
-at-most : (most : ℕ) (checks : List Check) (k : ℕ) → AtMost most checks → firstRefusal checks ≡ some k → k ≤ most
-unfolding firstRefusal
-at-most most [] k a e = let z : _≡_ {A = ℕ} 0 1 = cc in absurd (omega arith)
-at-most most ((true gives j) ∷ checks) k a e = let i : j ≡ k = cc in omega (arith, a .0)
-at-most most ((false gives j) ∷ checks) k a e = at-most most checks k (a .1) e
-
 -- The three kinds of answer.
 data Answer (n : ℕ) (ends lent : List ℕ) : Type 0 where
   early : (k : ℕ) → k ≤ 5 → firstRefusal (inputChecks n ends lent) ≡ some k → twoColor n ends lent .report ≡ refused k → Answer n ends lent
@@ -66,8 +55,8 @@ data Answer (n : ℕ) (ends lent : List ℕ) : Type 0 where
 module _ (n : ℕ) (ends lent : List ℕ) where
   -- The checks before 8 refuse by 5 or less.
   input-refusal : (k : ℕ) → firstRefusal (inputChecks n ends lent) ≡ some k → k ≤ 5
-  unfolding inputChecks graphChecks
-  input-refusal k e = at-most 5 (inputChecks n ends lent) k (omega arith, (omega arith, (omega arith, (omega arith, (omega arith, tt))))) e
+  unfolding inputChecks graphChecks numbersPass
+  input-refusal k e = leb-true k 5 (refusal-passes (λ (j : ℕ). leb j 5) (inputChecks n ends lent) k refl e)
 
   -- Refused by a check before 8.
   before-eight : (k : ℕ) → firstRefusal (inputChecks n ends lent) ≡ some k → (refused k ≡ twoColor n ends lent .report) × (lent ≡ twoColor n ends lent .colors)

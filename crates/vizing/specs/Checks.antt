@@ -1,21 +1,19 @@
 -- The checks of the call pass exactly where demand 3 admits the list and the colour slice has one place for each edge.
 use Prim.Native.Nat.{ℕ, suc, _+_, _*_, _≤_, _<_, _%_, _/_}
-use mathlib.Core.Path.{_≡_, refl, sym, ap, _∙_}
+use mathlib.Core.Path.{_≡_, sym, ap, _∙_}
 use mathlib.Core.Logic.{inl, inr}
 use mathlib.Core.List.{List, [], _∷_, _++_}
-use mathlib.Core.Bool.{Bool, true, false, not}
+use mathlib.Core.Bool.{not}
 use mathlib.Core.Option.{none}
 use native.Mathlib.Omega.{arith}
 use lib.ListN.{length, getD, take}
-use lib.Dec.{ltb, eqb}
-use borrow.Author.Tests.{lt-ltb, le-ltb, eq-eqb, ne-eqb, eqb-true, not-false}
-use Rattle.lists.specs.Tests.{by-test, dec-eq, true-and}
-use Rattle.lists.specs.Search.{below-all}
+use lib.Dec.{eqb}
+use borrow.Author.Tests.{eq-eqb, eqb-true, not-false}
+use Rattle.lists.specs.Tests.{dec-eq}
 use Rattle.graph.specs.Edges.{edgeCount, firstEnd, secondEnd}
 use Rattle.graph.specs.Check.{Check, _gives_, firstRefusal, graphChecks, lengthCheck}
-use Rattle.graph.specs.CheckLaws.{refused-first, passed-first, passed-both, first-refuses, first-passes, all-passed, passed, passed-inside}
-use Rattle.vizing.specs.MisraGries.{hasLoop, hasDoubleEdge, misraGriesChecks}
-use Rattle.vizing.specs.DefinitionLaws.{none-not-some, some-or-none}
+use Rattle.graph.specs.CheckLaws.{Passed, passed, passes, passed-inside, passed-first, passed-both, passed-one, first-passes, all-passed}
+use Rattle.vizing.specs.MisraGries.{hasLoop, hasDoubleEdge, simpleChecks, misraGriesChecks}
 use Rattle.vizing.specs.FirstEdges.{first-end-take, second-end-take, edge-count-take}
 use Rattle.vizing.specs.Simple.{SameEnds, simple-no-loop, simple-no-double, passed-simple}
 use Rattle.vizing.specs.Demand3.{Admitted}
@@ -32,56 +30,35 @@ admitted-places n ends a i h =
       | inr p ↦ let e : i ≡ 2 * (i / 2) + 1 = omega arith in rw e (r .1)
     ]
 
-graph-checks-pass : (n : ℕ) (ends : List ℕ) → Admitted n ends → firstRefusal (graphChecks n ends) ≡ none
-unfolding graphChecks firstRefusal
-graph-checks-pass n ends a =
-    simp (
-      le-ltb 512 n (a .nodes),
-      ne-eqb (length ends % 2) 1 (λ e. omega (arith, a .even)),
-      le-ltb 8192 (length ends) (omega (arith, a .even, a .edges)),
-      below-all n ends (admitted-places n ends a),
-    )
+pub admitted-passed : (n : ℕ) (ends : List ℕ) → Admitted n ends → Passed n ends
+admitted-passed n ends a = record { nodes = a .nodes; even = a .even; edges = a .edges; inside = admitted-places n ends a }
 
 pub checks-pass : (n : ℕ) (ends colors : List ℕ) → Admitted n ends → length colors ≡ edgeCount ends → firstRefusal (misraGriesChecks n ends colors) ≡ none
 unfolding misraGriesChecks
 checks-pass n ends colors a e =
     let m = edgeCount ends in
     let double = (hasDoubleEdge ends m gives 7) ∷ [] in
-    let loop = (hasLoop ends m gives 6) ∷ double in
-    passed-first (graphChecks n ends) (lengthCheck (length colors) m ∷ loop) (graph-checks-pass n ends a)
-    ∙ first-passes (not (eqb (length colors) m)) 5 loop (ap not (eq-eqb (length colors) m e))
+    passed-first (graphChecks n ends) (lengthCheck (length colors) m ∷ simpleChecks ends) (passes n ends (admitted-passed n ends a))
+    ∙ first-passes (not (eqb (length colors) m)) 5 (simpleChecks ends) (ap not (eq-eqb (length colors) m e))
     ∙ first-passes (hasLoop ends m) 6 double (simple-no-loop ends m (a .simple))
     ∙ first-passes (hasDoubleEdge ends m) 7 [] (simple-no-double ends m (a .simple))
     ∙ all-passed
 
 -- ---- a list that passes is admitted
 
-first-passed : (b : Bool) (k : ℕ) (checks : List Check) → firstRefusal ((b gives k) ∷ checks) ≡ none → (b ≡ false) × (firstRefusal checks ≡ none)
-first-passed b k checks e =
-    by-test b
-    (λ t. absurd (none-not-some (firstRefusal ((b gives k) ∷ checks)) k e (first-refuses b k checks t)))
-    (λ t. (t, sym (first-passes b k checks t) ∙ e))
+pub simple-admitted : (n : ℕ) (ends : List ℕ) → Passed n ends → firstRefusal (simpleChecks ends) ≡ none → Admitted n ends
+simple-admitted n ends p e =
+    let loop = passed-one (hasLoop ends (edgeCount ends)) 6 ((hasDoubleEdge ends (edgeCount ends) gives 7) ∷ []) e in
+    let double = passed-one (hasDoubleEdge ends (edgeCount ends)) 7 [] (loop .1) in
+    record { nodes = p .nodes; even = p .even; edges = p .edges; inside = passed-inside n ends p; simple = passed-simple ends (edgeCount ends) (loop .0) (double .0) }
 
 pub passed-admitted : (n : ℕ) (ends colors : List ℕ) → firstRefusal (misraGriesChecks n ends colors) ≡ none → Admitted n ends × (length colors ≡ edgeCount ends)
 unfolding misraGriesChecks
 passed-admitted n ends colors e =
     let m = edgeCount ends in
-    let double = (hasDoubleEdge ends m gives 7) ∷ [] in
-    let loop = (hasLoop ends m gives 6) ∷ double in
-    let graph = passed-both (graphChecks n ends) (lengthCheck (length colors) m ∷ loop) e in
-    let size = first-passed (not (eqb (length colors) m)) 5 loop (graph .1) in
-    let no-loop = first-passed (hasLoop ends m) 6 double (size .1) in
-    let no-double = first-passed (hasDoubleEdge ends m) 7 [] (no-loop .1) in
-    let p = passed n ends (graph .0) in (
-      record {
-        nodes = p .nodes;
-        even = p .even;
-        edges = p .edges;
-        inside = passed-inside n ends p;
-        simple = passed-simple ends m (no-loop .0) (no-double .0);
-      },
-      eqb-true (length colors) m (not-false (eqb (length colors) m) (size .0)),
-    )
+    let graph = passed-both (graphChecks n ends) (lengthCheck (length colors) m ∷ simpleChecks ends) e in
+    let size = passed-one (not (eqb (length colors) m)) 5 (simpleChecks ends) (graph .1) in
+    (simple-admitted n ends (passed n ends (graph .0)) (size .1), eqb-true (length colors) m (not-false (eqb (length colors) m) (size .0)))
 
 -- ---- the first k edges of an admitted list
 
