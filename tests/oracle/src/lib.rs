@@ -5,5 +5,6 @@ pub mod coloring;
 pub mod dictmap;
 pub mod line_graph;
 pub mod rules;
+pub mod shapes;
 
 pub use petgraph;

@@ -5,6 +5,9 @@
 use std::io::Write;
 
 use rustworkx_core::rules::{self, NONE};
+use rustworkx_core::shapes::{
+    bipartite, complete, cycle, flat, mixed, path, simple, star, Edges, Random,
+};
 
 #[derive(Clone, Copy, PartialEq)]
 enum Family {
@@ -30,81 +33,6 @@ impl Family {
             _ => return None,
         })
     }
-}
-
-/// Splitmix64: short, and the same everywhere.
-struct Random(u64);
-
-impl Random {
-    fn next(&mut self) -> u64 {
-        self.0 = self.0.wrapping_add(0x9e37_79b9_7f4a_7c15);
-        let mut z = self.0;
-        z = (z ^ (z >> 30)).wrapping_mul(0xbf58_476d_1ce4_e5b9);
-        z = (z ^ (z >> 27)).wrapping_mul(0x94d0_49bb_1331_11eb);
-        z ^ (z >> 31)
-    }
-
-    fn below(&mut self, bound: usize) -> usize {
-        (self.next() % bound as u64) as usize
-    }
-
-    fn node(&mut self, n: usize) -> u16 {
-        self.below(n) as u16
-    }
-
-    fn shuffle<T>(&mut self, items: &mut [T]) {
-        for i in (1..items.len()).rev() {
-            items.swap(i, self.below(i + 1));
-        }
-    }
-}
-
-type Edges = Vec<(u16, u16)>;
-
-/// The same graph, its edges listed in another order and turned at random.
-fn mixed(random: &mut Random, edges: &[(u16, u16)]) -> Edges {
-    let mut edges: Edges = edges
-        .iter()
-        .map(|&(u, v)| if random.below(2) == 0 { (u, v) } else { (v, u) })
-        .collect();
-    random.shuffle(&mut edges);
-    edges
-}
-
-fn path(n: u16) -> Edges {
-    (1..n).map(|v| (v - 1, v)).collect()
-}
-
-fn cycle(n: u16) -> Edges {
-    (0..n).map(|v| (v, (v + 1) % n)).collect()
-}
-
-fn star(n: u16) -> Edges {
-    (1..n).map(|v| (0, v)).collect()
-}
-
-fn complete(n: u16) -> Edges {
-    (0..n)
-        .flat_map(|u| (u + 1..n).map(move |v| (u, v)))
-        .collect()
-}
-
-fn bipartite(a: u16, b: u16) -> Edges {
-    (0..a)
-        .flat_map(|u| (a..a + b).map(move |v| (u, v)))
-        .collect()
-}
-
-/// m different edges without loops.
-fn simple(random: &mut Random, n: u16, m: usize) -> Edges {
-    let mut edges = complete(n);
-    random.shuffle(&mut edges);
-    edges.truncate(m);
-    mixed(random, &edges)
-}
-
-fn flat(edges: &[(u16, u16)]) -> Vec<u16> {
-    edges.iter().flat_map(|&(u, v)| [u, v]).collect()
 }
 
 /// One graph line with the lines below it.
