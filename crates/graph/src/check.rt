@@ -7,18 +7,19 @@ use crate::Checked;
 use crate::Graph;
 use crate::Refusal;
 
-// Whether each end is below n.
-fn all_below(n: usize, ends: &[u16]) -> bool
+// Whether each end is below n. It goes on where one is not, so that the compiler can take many ends at once.
+fn all_below(n: u16, ends: &[u16]) -> bool
     ensures { λ r. ⌜ r ≡ allBelow n (now (ends .entry)) ⌝ }
 {
+    let mut all = true;
     let mut i = 0;
     while i < ends.len() {
-        if n <= ends[i] as usize {
-            return false;
+        if n <= ends[i] {
+            all = false;
         }
         i += 1;
     }
-    true
+    all
 }
 
 // The graph checks, in order, over the whole input.
@@ -34,7 +35,7 @@ pub fn check_graph(n: usize, ends: &[u16]) -> Checked
     if ends.len() > 2 * Graph::MAX_EDGES {
         return Checked::Refused(Refusal::TooManyEnds);
     }
-    if all_below(n, ends) {
+    if all_below(n as u16, ends) {
         Checked::Accepted(Graph::new(n, ends.len() / 2))
     } else {
         Checked::Refused(Refusal::EndOutside)

@@ -1,17 +1,17 @@
 -- Searching: whether every number of a list passes a test, and whether some number below n does.
 use Prim.Native.Nat.{ℕ, zero, suc, _+_, _≤_, _<_}
-use mathlib.Core.Path.{_≡_, refl}
+use mathlib.Core.Path.{_≡_, refl, sym, ap, _∙_}
 use mathlib.Core.Logic.{inl, inr}
 use mathlib.Core.List.{List, [], _∷_}
 use mathlib.Core.Bool.{Bool, true, false, _&&_, _||_, false≢true}
 use native.Mathlib.Omega.{arith}
 use native.Mathlib.Numerals.{add-one}
 use native.Mathlib.Nat.{not-suc-le-zero}
-use lib.ListN.{length, getD, drop, drop-of-length-le}
-use lib.Seq.{drop-cons}
+use lib.ListN.{length, getD, take}
+use lib.Seq.{take-all}
 use lib.Dec.{ltb}
 use borrow.Author.Tests.{lt-ltb, le-ltb, ltb-true}
-use Rattle.lists.specs.Tests.{true-and, dec-eq, and-true, or-false}
+use Rattle.lists.specs.Tests.{true-and, dec-eq, and-true, and-right, and-false, and-assoc, or-false}
 
 -- Whether each number is below n.
 unfoldable pub allBelow : ℕ → List ℕ → Bool
@@ -29,18 +29,22 @@ unfolding allBelow
 below-all n [] h = refl
 below-all n (x ∷ xs) h = true-and (ltb x n) (allBelow n xs) (lt-ltb x n (h 0 (omega arith))) (below-all n xs (λ i b. h (suc i) (omega arith)))
 
--- A search from the front: a number below n does not decide, one that is n or more does, and so does the end.
-pub all-below-next : (n : ℕ) (s : List ℕ) (i : ℕ) {r : Bool} → allBelow n (drop i s) ≡ r → i < length s → getD s i 0 < n → allBelow n (drop (i + 1) s) ≡ r
+-- One number more.
+below-more : (n : ℕ) (s : List ℕ) (i : ℕ) → i < length s → allBelow n (take (suc i) s) ≡ allBelow n (take i s) && ltb (getD s i 0) n
 unfolding allBelow
-all-below-next n s i e h b = simp (add-one) (simp (drop-cons s i 0 h, lt-ltb _ _ b) at e)
+below-more n [] i h = absurd (not-suc-le-zero h)
+below-more n (x ∷ s) zero h = and-right (ltb x n)
+below-more n (x ∷ s) (suc i) h = ap (λ (b : Bool). ltb x n && b) (below-more n s i (omega arith)) ∙ and-assoc (ltb x n) (allBelow n (take i s)) (ltb (getD s i 0) n)
 
-pub all-below-broken : (n : ℕ) (s : List ℕ) (i : ℕ) {r : Bool} → allBelow n (drop i s) ≡ r → i < length s → n ≤ getD s i 0 → false ≡ r
-unfolding allBelow
-all-below-broken n s i e h b = simp (drop-cons s i 0 h, le-ltb _ _ b) at e
+-- Number by number from the front, to the end: what was passed decides until one is n or more, and then that does.
+pub all-below-kept : (n : ℕ) (s : List ℕ) (i : ℕ) (r : Bool) → r ≡ allBelow n (take i s) → i < length s → getD s i 0 < n → r ≡ allBelow n (take (i + 1) s)
+all-below-kept n s i r e h b = rw (add-one i, below-more n s i h, sym e, lt-ltb (getD s i 0) n b) (sym (and-right r))
 
-pub all-below-end : (n : ℕ) (s : List ℕ) (i : ℕ) {r : Bool} → allBelow n (drop i s) ≡ r → length s ≤ i → true ≡ r
-unfolding allBelow
-all-below-end n s i e h = simp (drop-of-length-le s h) at e
+pub all-below-broken : (n : ℕ) (s : List ℕ) (i : ℕ) → i < length s → n ≤ getD s i 0 → false ≡ allBelow n (take (i + 1) s)
+all-below-broken n s i h b = rw (add-one i, below-more n s i h, le-ltb (getD s i 0) n b) (sym (and-false (allBelow n (take i s))))
+
+pub all-below-all : (n : ℕ) (s : List ℕ) (i : ℕ) (r : Bool) → r ≡ allBelow n (take i s) → length s ≤ i → r ≡ allBelow n s
+all-below-all n s i r e h = e ∙ ap (allBelow n) (take-all i s h)
 
 -- Whether some number below n passes the test.
 unfoldable pub any : (ℕ → Bool) → ℕ → Bool

@@ -25,6 +25,18 @@ pub true-and : (a b : Bool) → a ≡ true → b ≡ true → a && b ≡ true
 true-and true b p q = q
 true-and false b p q = absurd (false≢true p)
 
+pub and-right : (a : Bool) → a && true ≡ a
+and-right true = refl
+and-right false = refl
+
+pub and-false : (a : Bool) → a && false ≡ false
+and-false true = refl
+and-false false = refl
+
+pub and-assoc : (a b c : Bool) → a && (b && c) ≡ (a && b) && c
+and-assoc true b c = refl
+and-assoc false b c = refl
+
 pub or-false : (a b : Bool) → a || b ≡ false → (a ≡ false) × (b ≡ false)
 or-false true b e = absurd (true≢false e)
 or-false false b e = (refl, e)

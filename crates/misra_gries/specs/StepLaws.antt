@@ -2,7 +2,7 @@
 use Prim.Native.Nat.{ℕ, suc, _+_, _-_, _*_, _≤_, _<_}
 use mathlib.Core.Path.{_≡_, refl, sym, ap, _∙_, subst}
 use mathlib.Core.List.{List, [], _∷_, map}
-use mathlib.Core.Bool.{Bool, cond}
+use mathlib.Core.Bool.{Bool, true, cond}
 use native.Mathlib.Omega.{arith}
 use native.Mathlib.Nat.{min-le-left}
 use lib.ListN.{length, getD, take, drop, length-map, length-take}
@@ -15,12 +15,13 @@ use Rattle.misra_gries.specs.MarkedFan.{FanReady, fanOf}
 use Rattle.graph.specs.EdgeLaws.{far-first}
 use Rattle.graph.specs.Colored.{noColor, colorOf, smallestFreeAt}
 use Rattle.vizing.specs.MisraGries.{lastFarEnd, swap, path, exchange, rotate, store, Found, find, step}
+use Rattle.vizing.specs.Store.{exchange-none}
 use Rattle.vizing.specs.Step.{Invariant, FoundLaws, found-laws, step-keeps}
-use Rattle.edge_table.specs.EdgeTable.{state, repainted, smallestEmpty}
+use Rattle.edge_table.specs.EdgeTable.{state, repainted, isEmpty, smallestEmpty}
 use Rattle.edge_table.specs.TableOf.{TableOf, says-smallest, says-free}
 use Rattle.edge_table.specs.Repaint.{Repaintable, repaint-done}
 use Rattle.edge_table.specs.StepRepaint.{exchangedColors, rotatedColors, exchange-done, step-exchange, step-rotation}
-use Rattle.misra_gries.specs.TablePath.{tablePath, table-path}
+use Rattle.misra_gries.specs.TablePath.{tablePath, path-none, table-path}
 use Rattle.misra_gries.specs.TablePlaces.{tablePlaces, table-places, places-taken}
 use Rattle.misra_gries.specs.Range.{palette, max-degree-below}
 use Rattle.misra_gries.specs.Step.{InRange, Ready, Exchanging, Turning, Turned, topColor}
@@ -34,6 +35,13 @@ new-length l c d es out len p e = p ∙ (sym (length-map es (λ (k : ℕ). swap 
 module _ (ends l T : List ℕ) (n u c d : ℕ) (E : Exchanging ends n l T u c d) where
   right-path : tablePath ends T n u d c ≡ path ends (edgeCount ends) n l u d c
   right-path = table-path ends (edgeCount ends) l T (λ v. Unit {0}) (λ k v h. tt) n u d c tt (λ v a. E .tabled .says v d (E .d-color)) (λ v a. E .tabled .says v c (E .c-color))
+
+  -- d is free at u: the path is empty, and nothing is exchanged.
+  pub path-empty : (b : Bool) → b ≡ isEmpty T u d → b ≡ true
+      → (0 ≡ length (path ends (edgeCount ends) n l u d c)) × ((l ≡ exchange l c d (path ends (edgeCount ends) n l u d c)) × TableOf ends (edgeCount ends) l T)
+  path-empty b e t =
+      let p : path ends (edgeCount ends) n l u d c ≡ [] = sym right-path ∙ path-none ends T n u d c (sym e ∙ t) in
+      (sym (ap length p), (sym (ap (exchange l c d) p ∙ exchange-none l c d), E .tabled))
 
   pub path-exchanged : (es out l′ T′ : List ℕ) (len : ℕ) → es ≡ tablePath ends T n u d c → len ≡ length es → take (length es) out ≡ exchangedColors l c d es → state l′ T′ ≡ repainted ends (state l T) es (take len out)
       → (len ≡ length (path ends (edgeCount ends) n l u d c)) × ((l′ ≡ exchange l c d (path ends (edgeCount ends) n l u d c)) × TableOf ends (edgeCount ends) l′ T′)
@@ -54,6 +62,13 @@ module _ (ends l T fan : List ℕ) (d : ℕ) (L : TableOf ends (edgeCount ends) 
   pub fan-rotated : (l′ T′ : List ℕ) → state l′ T′ ≡ repainted ends (state l T) fan (take (length fan) out)
       → (l′ ≡ store l fan (rotatedColors l (drop 1 fan) d)) × TableOf ends (edgeCount ends) l′ T′
   fan-rotated l′ T′ s = repaint-done ends (edgeCount ends) l T fan (rotatedColors l (drop 1 fan) d) L R l′ T′ (s ∙ ap (repainted ends (state l T) fan) e)
+
+-- A fan of one place takes d.
+pub fan-of-one : (ends l T fan : List ℕ) (d : ℕ) → TableOf ends (edgeCount ends) l T → Repaintable ends (edgeCount ends) l fan (rotatedColors l (drop 1 fan) d) → length fan ≡ 1
+    → (l′ T′ : List ℕ) → state l′ T′ ≡ repainted ends (state l T) fan (d ∷ []) → (l′ ≡ store l fan (rotatedColors l (drop 1 fan) d)) × TableOf ends (edgeCount ends) l′ T′
+fan-of-one ends l T [] d L R h l′ T′ s = let z : ⊥ = omega arith in absurd z
+fan-of-one ends l T (k ∷ []) d L R h l′ T′ s = repaint-done ends (edgeCount ends) l T (k ∷ []) (d ∷ []) L R l′ T′ s
+fan-of-one ends l T (k ∷ j ∷ ks) d L R h l′ T′ s = let z : ⊥ = omega arith in absurd z
 
 -- ---- steps 2 to 5
 

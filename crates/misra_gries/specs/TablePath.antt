@@ -4,13 +4,14 @@ use mathlib.Core.Path.{_≡_, refl, sym, ap, _∙_}
 use mathlib.Core.Logic.{inl, inr}
 use mathlib.Core.List.{List, [], _∷_}
 use mathlib.Core.Option.{none, some}
+use mathlib.Core.Bool.{true, false≢true}
 use native.Mathlib.Omega.{arith}
 use lib.ListN.{length, set, take}
 use Rattle.graph.specs.Edges.{farEnd, edgesAt}
 use Rattle.graph.specs.EdgeLaws.{edge-at}
-use Rattle.vizing.specs.MisraGries.{edgeOfColor, path}
+use Rattle.vizing.specs.MisraGries.{isNone, edgeOfColor, path}
 use Rattle.vizing.specs.DefinitionLaws.{some-or-none, edge-of-color-some}
-use Rattle.edge_table.specs.EdgeTable.{optionOf, tableEdge}
+use Rattle.edge_table.specs.EdgeTable.{optionOf, tableEdge, isEmpty}
 use Rattle.edge_table.specs.declared.EdgeOfColor.{EdgeOfColor}
 use Rattle.edge_table.specs.declared.EdgeOfColor.the-variants.{Edge, Nothing}
 use Rattle.graph.specs.declared.EdgeIndex.{EdgeIndex}
@@ -29,6 +30,15 @@ module _ (ends T : List ℕ) (fuel v p q : ℕ) where
   path-goes : (k : ℕ) → tableEdge T v p ≡ some k → tablePath ends T (suc fuel) v p q ≡ k ∷ tablePath ends T fuel (farEnd ends k v) q p
   unfolding tablePath
   path-goes k e = rw (e, tablePath)
+
+-- Where no edge has the first colour there is no path.
+pub path-none : (ends T : List ℕ) (fuel v p q : ℕ) → isEmpty T v p ≡ true → tablePath ends T fuel v p q ≡ []
+unfolding tablePath isEmpty
+path-none ends T zero v p q e = refl
+path-none ends T (suc fuel) v p q e = elim (some-or-none (tableEdge T v p)) [
+  | inl z ↦ path-stops ends T fuel v p q z
+  | inr (k, z) ↦ absurd (false≢true (sym (ap isNone z) ∙ e))
+]
 
 -- ---- with a right table
 

@@ -14,6 +14,7 @@ use crate::new_colors::shift_colors;
 use crate::new_colors::swap_colors;
 use crate::path::follow;
 use crate::places::places_to;
+use edge_table::is_free;
 use edge_table::repaint;
 use edge_table::smallest_free;
 use graph::Color;
@@ -24,7 +25,7 @@ use graph::end_at;
 use graph::far_end;
 
 // The path from the node along d, c, d and so on exchanges c and d; the answer is the number of its edges.
-fn exchange_path(
+fn exchange_edges(
     n: usize,
     ends: &[u16],
     work: &mut [u16],
@@ -46,8 +47,29 @@ fn exchange_path(
     len
 }
 
+// The same. Where d is free at the node there is no path, and no array has to be cleared for it.
+fn exchange_path(
+    n: usize,
+    ends: &[u16],
+    work: &mut [u16],
+    table: &mut [u16],
+    node: NodeIndex,
+    c: Color,
+    d: Color,
+) -> usize
+    requires { ⌜ Exchanging (now ends) n (now work) (now table) (node .0) (c .0) (d .0) ⌝ }
+    ensures { λ r. ⌜ r ≡ length (path (now (ends .entry)) (edgeCount (now (ends .entry))) n (now (work .entry)) (node .0) (d .0) (c .0)) ⌝ }
+    ensures { λ _. ⌜ (now (work .exit) ≡ exchange (now (work .entry)) (c .0) (d .0) (path (now (ends .entry)) (edgeCount (now (ends .entry))) n (now (work .entry)) (node .0) (d .0) (c .0)))
+        × TableOf (now (ends .entry)) (edgeCount (now (ends .entry))) (now (work .exit)) (now (table .exit)) ⌝ }
+{
+    if is_free(table, node, d) {
+        return 0;
+    }
+    exchange_edges(n, ends, work, table, node, c, d)
+}
+
 // Each of the fan's places takes the colour of the next, the last takes d.
-fn rotate_fan(ends: &[u16], work: &mut [u16], table: &mut [u16], fan: &[u16], d: Color)
+fn rotate_places(ends: &[u16], work: &mut [u16], table: &mut [u16], fan: &[u16], d: Color)
     requires { ⌜ TableOf (now ends) (edgeCount (now ends)) (now work) (now table) ⌝ }
     requires { ⌜ Repaintable (now ends) (edgeCount (now ends)) (now work) (now fan) (rotatedColors (now work) (drop 1 (now fan)) (d .0)) ⌝ }
     requires { ⌜ (1 ≤ length (now fan)) × (length (now fan) ≤ 512) ⌝ }
@@ -58,6 +80,22 @@ fn rotate_fan(ends: &[u16], work: &mut [u16], table: &mut [u16], fan: &[u16], d:
     let len = fan.len();
     shift_colors(work, fan, d, &mut colors);
     repaint(ends, work, table, fan, &colors[..len]);
+}
+
+// The same. Where the fan has one place, only that takes d, and no array has to be cleared for it.
+fn rotate_fan(ends: &[u16], work: &mut [u16], table: &mut [u16], fan: &[u16], d: Color)
+    requires { ⌜ TableOf (now ends) (edgeCount (now ends)) (now work) (now table) ⌝ }
+    requires { ⌜ Repaintable (now ends) (edgeCount (now ends)) (now work) (now fan) (rotatedColors (now work) (drop 1 (now fan)) (d .0)) ⌝ }
+    requires { ⌜ (1 ≤ length (now fan)) × (length (now fan) ≤ 512) ⌝ }
+    ensures { λ _. ⌜ (now (work .exit) ≡ store (now (work .entry)) (now (fan .entry)) (rotatedColors (now (work .entry)) (drop 1 (now (fan .entry))) (d .0)))
+        × TableOf (now (ends .entry)) (edgeCount (now (ends .entry))) (now (work .exit)) (now (table .exit)) ⌝ }
+{
+    if fan.len() == 1 {
+        let colors = [d.0; 1];
+        repaint(ends, work, table, fan, &colors);
+        return;
+    }
+    rotate_places(ends, work, table, fan, d);
 }
 
 // Steps 2 to 5 for an edge whose fan is given. The answer is the one new colour that may be greater than all before.

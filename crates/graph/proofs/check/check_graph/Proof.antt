@@ -12,6 +12,6 @@ check-graph-spec =
     (λ c. search (needs, odd-ends))
     (λ c. search needs)
     (λ c. search (needs, too-many-ends))
-    (λ c κs. search needs) (λ c κs. search needs)
+    (λ c. search needs) (λ c κs. search needs) (λ c κs. search needs)
     (λ c. search (needs, graph-passes))
     (λ c. search (needs, end-outside)))

@@ -1,47 +1,16 @@
-use Rattle.misra_gries.specs.StepLaws.{rotated-length, fan-rotated}
+-- `rotate_fan` meets its contract: a fan of one place takes d.
 use borrow.Author.Needs.{needs}
-use native.Mathlib.Omega.{arith}
-use borrow.Author.Needs.{needs}
+use Rattle.misra_gries.specs.StepLaws.{fan-of-one}
 use Rattle.misra_gries.proofs.steps.rotate_fan.Statement.{statement}
 use Rattle.misra_gries.proofs.steps.rotate_fan.Tie as tie
-use Rattle.misra_gries.proofs.steps.rotate_fan.Reads as reads
-use Rattle.misra_gries.proofs.steps.rotate_fan.Lts as lts
-use Rattle.edge_table.proofs.repaint.Reads as repaint-reads
-use Rattle.misra_gries.proofs.new_colors.shift_colors.Reads as shift-colors-reads
-
-slice-aggregate-shift-colors : tie.Need-slice-aggregate-shift-colors
-slice-aggregate-shift-colors c = search needs
-
-shift-colors-requires : tie.Need-shift-colors-requires
-shift-colors-requires c κs = search needs
-
-array-share-prefix-colors : tie.Need-array-share-prefix-colors
-array-share-prefix-colors c = search needs
-
-slice-aggregate-repaint : tie.Need-slice-aggregate-repaint
-slice-aggregate-repaint c = rotated-length _ _ _ _ _ (c .before .before .before .before .before .before .before .before .before .before .before .pre .0) (c .before .before .before .before .before .before .before .before .before .before .before .pre .1 .0) _ (c .before .before .before .before .shift-colors .ensures)
-
-repaint-requires : tie.Need-repaint-requires
-repaint-requires c κs = search needs
-
-same-length : tie.Need-same-length
-same-length c = search needs
-
-same-length-2 : tie.Need-same-length-2
-same-length-2 c = search needs
 
 returns : tie.Need-returns
-returns c = fan-rotated _ _ _ _ _ (c .before .before .before .before .before .before .before .before .before .before .before .before .before .before .before .before .pre .0) (c .before .before .before .before .before .before .before .before .before .before .before .before .before .before .before .before .pre .1 .0) _ (c .before .before .before .before .before .before .before .before .before .shift-colors .ensures) _ _ (c .before .before .before .before .repaint .ensures)
+returns c = fan-of-one _ _ _ _ _ (c .before .before .before .before .before .before .before .before .before .before .before .before .before .pre .0) (c .before .before .before .before .before .before .before .before .before .before .before .before .before .pre .1 .0) (c .before .before .before .before .before .before .before .before .if1 .taken) _ _ (c .before .before .before .before .repaint .ensures)
 
 pub rotate-fan-spec : {M : Type 1} → statement M
 rotate-fan-spec =
     tie.close
     (tie.spec
-    slice-aggregate-shift-colors
-    shift-colors-requires
-    array-share-prefix-colors
-    slice-aggregate-repaint
-    repaint-requires
-    same-length
-    same-length-2
-    returns)
+    (λ c. search needs) (λ c κs. search needs) (λ c. search needs) (λ c. search needs)
+    returns
+    (λ c κs. search needs) (λ c. search needs) (λ c. search needs) (λ c. search needs))

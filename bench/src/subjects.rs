@@ -1,0 +1,265 @@
+//! What is measured: the port, the Rust, the Rust over the heap queue, and Boost. Each goes from the same list of ends to the
+//! answer, and hands the answer back in one form, so that they can be compared.
+
+use std::convert::Infallible;
+use std::hash::Hash;
+use std::hint::black_box;
+
+use petgraph::graph::{EdgeIndex, NodeIndex, UnGraph};
+use rustworkx_core::coloring;
+use rustworkx_core::dictmap::DictMap;
+use rustworkx_core::line_graph::line_graph;
+use wulgranite::{ColoringStrategy, Refusal};
+
+use crate::graphs::Graph;
+
+#[derive(Clone, Copy, PartialEq)]
+pub enum Call {
+    MisraGries,
+    EdgeColor(ColoringStrategy),
+    NodeColor(ColoringStrategy),
+    TwoColor,
+    LineGraph,
+}
+
+/// The colours by number, or the line list; nothing where the call refuses.
+pub type Answer = Option<Vec<u16>>;
+
+pub trait Subject {
+    /// What is timed.
+    fn call(&mut self);
+    /// The last call's answer.
+    fn answer(&self) -> Answer;
+    /// Forgets the last answer, so that a stale one can't pass for a new one.
+    fn forget(&mut self);
+}
+
+pub struct Port<'a> {
+    graph: &'a Graph,
+    call: Call,
+    presets: Vec<u16>,
+    numbers: Vec<u16>,
+    bytes: Vec<u8>,
+    report: Result<usize, Refusal>,
+}
+
+impl<'a> Port<'a> {
+    pub fn new(graph: &'a Graph, call: Call) -> Self {
+        let length = match call {
+            Call::MisraGries | Call::EdgeColor(_) => graph.edge_count(),
+            Call::NodeColor(_) | Call::TwoColor => graph.n,
+            Call::LineGraph => 2 * graph.pair_count(),
+        };
+        Port {
+            graph,
+            call,
+            presets: vec![wulgranite::NONE; length],
+            numbers: vec![wulgranite::NONE; length],
+            bytes: vec![u8::MAX; length],
+            report: Ok(0),
+        }
+    }
+}
+
+impl Subject for Port<'_> {
+    fn call(&mut self) {
+        let (n, ends) = (self.graph.n, black_box(&self.graph.ends[..]));
+        let (presets, numbers) = (&self.presets, &mut self.numbers[..]);
+        self.report = match self.call {
+            Call::MisraGries => wulgranite::misra_gries_edge_color(n, ends, numbers),
+            Call::EdgeColor(strategy) => wulgranite::greedy_edge_color_with_coloring_strategy(
+                n, ends, presets, strategy, numbers,
+            ),
+            Call::NodeColor(strategy) => wulgranite::greedy_node_color_with_coloring_strategy(
+                n, ends, presets, strategy, numbers,
+            ),
+            Call::TwoColor => wulgranite::two_color(n, ends, &mut self.bytes),
+            Call::LineGraph => wulgranite::line_graph(n, ends, numbers),
+        };
+    }
+
+    fn answer(&self) -> Answer {
+        match self.report {
+            Err(Refusal::OddClosedWalk) if self.call == Call::TwoColor => None,
+            Err(why) => panic!("{}: {why}", self.graph.name),
+            Ok(_) if self.call == Call::TwoColor => {
+                Some(self.bytes.iter().map(|&b| b.into()).collect())
+            }
+            Ok(_) => Some(self.numbers.clone()),
+        }
+    }
+
+    fn forget(&mut self) {
+        self.numbers.fill(wulgranite::NONE);
+        self.bytes.fill(u8::MAX);
+        self.report = Ok(0);
+    }
+}
+
+/// An answer as the Rust gives it.
+enum Published {
+    Edges(DictMap<EdgeIndex, usize>),
+    Nodes(DictMap<NodeIndex, usize>),
+    Sides(Option<DictMap<NodeIndex, u8>>),
+    Lines(UnGraph<(), ()>),
+}
+
+pub struct Rust<'a> {
+    graph: &'a Graph,
+    call: Call,
+    heap: bool,
+    last: Option<Published>,
+}
+
+impl<'a> Rust<'a> {
+    pub fn new(graph: &'a Graph, call: Call) -> Self {
+        Rust {
+            graph,
+            call,
+            heap: false,
+            last: None,
+        }
+    }
+
+    /// Saturation over the heap queue.
+    pub fn with_heap(graph: &'a Graph, call: Call) -> Self {
+        Rust {
+            heap: true,
+            ..Rust::new(graph, call)
+        }
+    }
+}
+
+/// With the capacity known, which is the least that it can cost.
+fn petgraph(n: usize, ends: &[u16]) -> UnGraph<(), ()> {
+    let mut graph = UnGraph::with_capacity(n, ends.len() / 2);
+    for _ in 0..n {
+        graph.add_node(());
+    }
+    for e in ends.chunks_exact(2) {
+        graph.add_edge(NodeIndex::new(e[0].into()), NodeIndex::new(e[1].into()), ());
+    }
+    graph
+}
+
+fn strategy(of: ColoringStrategy) -> coloring::ColoringStrategy {
+    match of {
+        ColoringStrategy::Degree => coloring::ColoringStrategy::Degree,
+        ColoringStrategy::Saturation => coloring::ColoringStrategy::Saturation,
+        ColoringStrategy::IndependentSet => coloring::ColoringStrategy::IndependentSet,
+    }
+}
+
+fn no_preset<T>(_: T) -> Result<Option<usize>, Infallible> {
+    Ok(None)
+}
+
+fn published(graph: &UnGraph<(), ()>, call: Call) -> Published {
+    match call {
+        Call::MisraGries => Published::Edges(coloring::misra_gries_edge_color(graph)),
+        Call::EdgeColor(by) => Published::Edges(
+            coloring::greedy_edge_color_with_coloring_strategy(graph, no_preset, strategy(by))
+                .unwrap(),
+        ),
+        Call::NodeColor(by) => Published::Nodes(
+            coloring::greedy_node_color_with_coloring_strategy(graph, no_preset, strategy(by))
+                .unwrap(),
+        ),
+        Call::TwoColor => Published::Sides(coloring::two_color(graph)),
+        Call::LineGraph => Published::Lines(line_graph(graph, || (), || ()).0),
+    }
+}
+
+fn published_over_heap(graph: &UnGraph<(), ()>, call: Call) -> Published {
+    use heap_oracle::coloring::{self, ColoringStrategy::Saturation};
+    match call {
+        Call::EdgeColor(_) => Published::Edges(
+            coloring::greedy_edge_color_with_coloring_strategy(graph, no_preset, Saturation)
+                .unwrap(),
+        ),
+        Call::NodeColor(_) => Published::Nodes(
+            coloring::greedy_node_color_with_coloring_strategy(graph, no_preset, Saturation)
+                .unwrap(),
+        ),
+        _ => unreachable!("only Saturation has a queue"),
+    }
+}
+
+/// The colours by number; the map has each number once.
+fn by_number<K: Copy + Eq + Hash, C: Copy + TryInto<u16>>(
+    colors: &DictMap<K, C>,
+    key: fn(usize) -> K,
+) -> Vec<u16> {
+    let number = |i| colors[&key(i)].try_into().ok().expect("a small colour");
+    (0..colors.len()).map(number).collect()
+}
+
+impl Subject for Rust<'_> {
+    fn call(&mut self) {
+        let graph = petgraph(self.graph.n, black_box(&self.graph.ends));
+        self.last = Some(if self.heap {
+            published_over_heap(&graph, self.call)
+        } else {
+            published(&graph, self.call)
+        });
+    }
+
+    fn answer(&self) -> Answer {
+        match self.last.as_ref().expect("a call before its answer") {
+            Published::Edges(colors) => Some(by_number(colors, EdgeIndex::new)),
+            Published::Nodes(colors) => Some(by_number(colors, NodeIndex::new)),
+            Published::Sides(colors) => colors.as_ref().map(|c| by_number(c, NodeIndex::new)),
+            Published::Lines(lines) => {
+                let pair = |edge: &petgraph::graph::Edge<()>| {
+                    [edge.source().index() as u16, edge.target().index() as u16]
+                };
+                Some(lines.raw_edges().iter().flat_map(pair).collect())
+            }
+        }
+    }
+
+    fn forget(&mut self) {
+        self.last = None;
+    }
+}
+
+extern "C" {
+    fn bench_boost_edge_color(n: usize, ends: *const u16, edges: usize, colors: *mut u16);
+}
+
+pub struct Boost<'a> {
+    graph: &'a Graph,
+    colors: Vec<u16>,
+}
+
+impl<'a> Boost<'a> {
+    pub fn new(graph: &'a Graph) -> Self {
+        Boost {
+            graph,
+            colors: vec![wulgranite::NONE; graph.edge_count()],
+        }
+    }
+}
+
+impl Subject for Boost<'_> {
+    fn call(&mut self) {
+        let ends = black_box(&self.graph.ends);
+        // SAFETY: the graph has as many ends as are read and each is below n; a colour is written for each edge.
+        unsafe {
+            bench_boost_edge_color(
+                self.graph.n,
+                ends.as_ptr(),
+                self.graph.edge_count(),
+                self.colors.as_mut_ptr(),
+            );
+        }
+    }
+
+    fn answer(&self) -> Answer {
+        Some(self.colors.clone())
+    }
+
+    fn forget(&mut self) {
+        self.colors.fill(wulgranite::NONE);
+    }
+}
