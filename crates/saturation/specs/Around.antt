@@ -30,11 +30,11 @@ module _ (kind : Kind) (ends starts entries : List ℕ) where
   unfoldable pub around : ℕ → List ℕ
   around v = cond (eqb (firstNode kind ends v) (secondNode kind ends v)) (along (firstNode kind ends v)) (along (firstNode kind ends v) ++ along (secondNode kind ends v))
 
-  around-one : (v a b : ℕ) → a ≡ firstNode kind ends v → b ≡ secondNode kind ends v → a ≡ b → around v ≡ along a
+  pub around-one : (v a b : ℕ) → a ≡ firstNode kind ends v → b ≡ secondNode kind ends v → a ≡ b → around v ≡ along a
   unfolding around
   around-one v a b p q e = rw (← p, ← q, eq-eqb a b e)
 
-  around-two : (v a b : ℕ) → a ≡ firstNode kind ends v → b ≡ secondNode kind ends v → (a ≡ b → ⊥) → around v ≡ along a ++ along b
+  pub around-two : (v a b : ℕ) → a ≡ firstNode kind ends v → b ≡ secondNode kind ends v → (a ≡ b → ⊥) → around v ≡ along a ++ along b
   unfolding around
   around-two v a b p q n = rw (← p, ← q, ne-eqb a b n)
 

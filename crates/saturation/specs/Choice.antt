@@ -1,5 +1,5 @@
 -- The choice of the next item, by the counts that are kept.
-use Prim.Native.Nat.{ℕ, suc, _+_, _<_}
+use Prim.Native.Nat.{ℕ, suc, _+_, _≤_, _<_}
 use mathlib.Core.Path.{_≡_, refl, sym, ap, subst, _∙_}
 use mathlib.Core.Logic.{inl, inr}
 use mathlib.Core.List.{List, [], _∷_, _++_, append-nil}
@@ -9,7 +9,7 @@ use native.Mathlib.Numerals.{add-one}
 use lib.ListN.{length, getD}
 use lib.Dec.{eqb, ltb}
 use borrow.Author.Tests.{le-ltb, eq-eqb, ne-eqb}
-use Rattle.lists.specs.Tests.{by-test}
+use Rattle.lists.specs.Tests.{by-test, dec-eq}
 use Rattle.lists.specs.Member.{Mem}
 use Rattle.graph.specs.Colored.{noColor, colorOf}
 use Rattle.graph.specs.ColoredLaws.{color-read}
@@ -20,6 +20,26 @@ use Rattle.saturation.specs.declared.items.Item.{Item}
 use Rattle.saturation.specs.declared.turns.Choice.{Choice}
 use Rattle.saturation.specs.declared.turns.Choice.the-variants.{Next, Nothing}
 use Rattle.saturation.specs.Counts.{Counted}
+
+-- The lowest item without a colour, or the number of items where each has one.
+pub record FirstUncolored (colors : List ℕ) (k : ℕ) : Type 0 where
+  pub before : uncolored colors k ≡ []
+  pub here : k < length colors → colorOf colors k ≡ noColor
+
+module _ (colors : List ℕ) where
+  pub first-begin : uncolored colors 0 ≡ []
+  unfolding uncolored
+  first-begin = refl
+
+  module _ (k : ℕ) (before : uncolored colors k ≡ []) where
+    pub first-next : k < length colors → (getD colors k 0 ≡ noColor → ⊥) → uncolored colors (k + 1) ≡ []
+    first-next h n = rw (add-one k) (last-colored colors k (λ e. n (color-read colors k 0 h ∙ e)) ∙ (append-nil (uncolored colors k) ∙ before))
+
+    pub first-found : k < length colors → getD colors k 0 ≡ noColor → FirstUncolored colors k
+    first-found h e = record { before = before; here = λ _. sym (color-read colors k 0 h) ∙ e }
+
+    pub first-none : length colors ≤ k → FirstUncolored colors k
+    first-none l = record { before = before; here = λ b. absurd (let z : ⊥ = omega arith in z) }
 
 module _ (saturations waiting : List ℕ) where
   -- `greater`, by the counts.
@@ -54,85 +74,60 @@ module _ (saturations waiting : List ℕ) where
     pub candidates : uncolored colors k ≡ first ∷ rest
     pub best-is : best ≡ leader first rest
 
-  -- The scan has passed the items below k; `length colors` stands for none.
-  pub record Scanned (colors : List ℕ) (k best : ℕ) : Type 0 where
-    pub none : best ≡ length colors → uncolored colors k ≡ []
-    pub some : (best ≡ length colors → ⊥) → Leads colors k best
-
   module _ (colors : List ℕ) where
-    pub scan-none : Scanned colors 0 (length colors)
-    unfolding uncolored
-    scan-none = record { none = λ e. refl; some = λ n. absurd (n refl) }
+    -- One item more, which has a colour.
+    more-colored : (k : ℕ) → k < length colors → (getD colors k 0 ≡ noColor → ⊥) → uncolored colors (suc k) ≡ uncolored colors k
+    more-colored k h n = last-colored colors k (λ e. n (color-read colors k 0 h ∙ e)) ∙ append-nil (uncolored colors k)
 
-    module _ (k best : ℕ) (scanned : Scanned colors k best) (inside : k < length colors) where
-      more-colored : (getD colors k 0 ≡ noColor → ⊥) → uncolored colors (suc k) ≡ uncolored colors k
-      more-colored n = last-colored colors k (λ e. n (color-read colors k 0 inside ∙ e)) ∙ append-nil (uncolored colors k)
+    bare-here : (k : ℕ) → k < length colors → getD colors k 0 ≡ noColor → colorOf colors k ≡ noColor
+    bare-here k h e = sym (color-read colors k 0 h) ∙ e
 
-      pub scan-colored : (getD colors k 0 ≡ noColor → ⊥) → Scanned colors (k + 1) best
-      scan-colored n = rw (add-one k) (record {
-        none = λ e. more-colored n ∙ scanned .none e;
-        some = λ z. let l = scanned .some z in record { inside = omega (arith, l .inside); bare = l .bare; first = l .first; rest = l .rest; candidates = more-colored n ∙ l .candidates; best-is = l .best-is };
-      })
+    -- The lowest item without a colour leads the items so far.
+    pub lead-first : (k : ℕ) → FirstUncolored colors k → k ≤ length colors → (k ≡ length colors → ⊥) → Leads colors (k + 1) k
+    unfolding leader
+    lead-first k f h n =
+        let e = f .here (omega (arith, h, n)) in
+        rw (add-one k) (record { inside = omega arith; bare = e; first = k; rest = []; candidates = last-uncolored colors k e ∙ ap (λ (l : List ℕ). l ++ k ∷ []) (f .before); best-is = refl })
 
-      module _ (bare : getD colors k 0 ≡ noColor) where
-        bare-here : colorOf colors k ≡ noColor
-        bare-here = sym (color-read colors k 0 inside) ∙ bare
+    module _ (k best : ℕ) (l : Leads colors k best) (inside : k < length colors) where
+      pub lead-colored : (getD colors k 0 ≡ noColor → ⊥) → Leads colors (k + 1) best
+      lead-colored n = rw (add-one k) (record { inside = omega (arith, l .inside); bare = l .bare; first = l .first; rest = l .rest; candidates = more-colored k inside n ∙ l .candidates; best-is = l .best-is })
 
-        pub scan-first : best ≡ length colors → Scanned colors (k + 1) k
-        unfolding leader
-        scan-first e = rw (add-one k) (record {
-          none = λ z. absurd (let y : ⊥ = omega arith in y);
-          some = λ z. record { inside = omega arith; bare = bare-here; first = k; rest = []; candidates = last-uncolored colors k bare-here ∙ ap (λ (l : List ℕ). l ++ k ∷ []) (scanned .none e); best-is = refl };
-        })
+      -- The candidates with item k after the others, and their leader.
+      candidates-more : getD colors k 0 ≡ noColor → uncolored colors (suc k) ≡ l .first ∷ (l .rest ++ k ∷ [])
+      candidates-more bare = last-uncolored colors k (bare-here k inside bare) ∙ ap (λ (x : List ℕ). x ++ k ∷ []) (l .candidates)
 
-        pub scan-greater : (best ≡ length colors → ⊥) → (r : Bool) → r ≡ leads k best → r ≡ true → Scanned colors (k + 1) k
-        scan-greater n r q t =
-            let l = scanned .some n in
-            let a : leads k best ≡ true = sym q ∙ t in
-            rw (add-one k) (record {
-              none = λ z. absurd (let y : ⊥ = omega arith in y);
-              some = λ z. record {
-                inside = omega arith;
-                bare = bare-here;
-                first = l .first;
-                rest = l .rest ++ k ∷ [];
-                candidates = last-uncolored colors k bare-here ∙ ap (λ (x : List ℕ). x ++ k ∷ []) (l .candidates);
-                best-is = sym (leader-last (l .first) (l .rest) k ∙ ap (λ (b : ℕ). cond (leads k b) k b) (sym (l .best-is)) ∙ ap (λ (b : Bool). cond b k best) a);
-              };
-            })
+      leader-more : (b : Bool) → leads k best ≡ b → leader (l .first) (l .rest ++ k ∷ []) ≡ cond b k best
+      leader-more b a = leader-last (l .first) (l .rest) k ∙ ap (λ (x : ℕ). cond (leads k x) k x) (sym (l .best-is)) ∙ ap (λ (x : Bool). cond x k best) a
 
-        pub scan-same : (best ≡ length colors → ⊥) → (r : Bool) → r ≡ leads k best → r ≡ false → Scanned colors (k + 1) best
-        scan-same n r q t =
-            let l = scanned .some n in
-            let a : leads k best ≡ false = sym q ∙ t in
-            rw (add-one k) (record {
-              none = λ z. absurd (n z);
-              some = λ z. record {
-                inside = omega (arith, l .inside);
-                bare = l .bare;
-                first = l .first;
-                rest = l .rest ++ k ∷ [];
-                candidates = last-uncolored colors k bare-here ∙ ap (λ (x : List ℕ). x ++ k ∷ []) (l .candidates);
-                best-is = sym (leader-last (l .first) (l .rest) k ∙ ap (λ (b : ℕ). cond (leads k b) k b) (sym (l .best-is)) ∙ ap (λ (b : Bool). cond b k best) a);
-              };
-            })
+      pub lead-greater : (r : Bool) → r ≡ leads k best → r ≡ true → getD colors k 0 ≡ noColor → Leads colors (k + 1) k
+      lead-greater r q t bare = rw (add-one k) (record { inside = omega arith; bare = bare-here k inside bare; first = l .first; rest = l .rest ++ k ∷ []; candidates = candidates-more bare; best-is = sym (leader-more true (sym q ∙ t)) })
+
+      -- An item that does not go before the best changes nothing, with or without a colour.
+      pub lead-same : (r : Bool) → r ≡ leads k best → r ≡ false → Leads colors (k + 1) best
+      lead-same r q t = elim (dec-eq (getD colors k 0) noColor) [
+        | inl bare ↦ rw (add-one k) (record { inside = omega (arith, l .inside); bare = l .bare; first = l .first; rest = l .rest ++ k ∷ []; candidates = candidates-more bare; best-is = sym (leader-more false (sym q ∙ t)) })
+        | inr n ↦ lead-colored n
+      ]
 
 -- The answer of the scan over all items.
 pub record Chosen (colors saturations waiting : List ℕ) (choice : Choice) : Type 0 where
   pub nothing : choice ≡ Nothing → uncolored colors (length colors) ≡ []
   pub next : (v : Item) → choice ≡ Next v → Leads saturations waiting colors (length colors) (v .0)
 
-module _ (colors saturations waiting : List ℕ) (k best : ℕ) (scanned : Scanned saturations waiting colors k best) (end : k ≡ length colors) where
-  pub chosen-nothing : best ≡ length colors → Chosen colors saturations waiting Nothing
-  chosen-nothing e = record { nothing = λ _. ap (uncolored colors) (sym end) ∙ scanned .none e; next = λ v p. let z : _≡_ {A = ℕ} 0 1 = cc in absurd (omega arith) }
+module _ (colors saturations waiting : List ℕ) where
+  pub chosen-nothing : (k : ℕ) → FirstUncolored colors k → k ≡ length colors → Chosen colors saturations waiting Nothing
+  chosen-nothing k f e = record { nothing = λ _. ap (uncolored colors) (sym e) ∙ f .before; next = λ v p. let z : _≡_ {A = ℕ} 0 1 = cc in absurd (omega arith) }
 
-  pub chosen-next : (best ≡ length colors → ⊥) → Chosen colors saturations waiting (Next (record { 0 = best }))
-  chosen-next n = record {
-    nothing = λ p. let z : _≡_ {A = ℕ} 0 1 = cc in absurd (omega arith);
-    next = λ v p.
-        let i : record { 0 = best } ≡ v = cc in
-        subst (λ (x : ℕ). Leads saturations waiting colors (length colors) x) (ap (λ (x : Item). x .0) i) (subst (λ (x : ℕ). Leads saturations waiting colors x best) end (scanned .some n));
-  }
+  pub chosen-next : (k best : ℕ) → Leads saturations waiting colors k best → k ≤ length colors → length colors ≤ k → Chosen colors saturations waiting (Next (record { 0 = best }))
+  chosen-next k best l h b =
+      let end : k ≡ length colors = omega arith in
+      record {
+        nothing = λ p. let z : _≡_ {A = ℕ} 0 1 = cc in absurd (omega arith);
+        next = λ v p.
+            let i : record { 0 = best } ≡ v = cc in
+            subst (λ (x : ℕ). Leads saturations waiting colors (length colors) x) (ap (λ (x : Item). x .0) i) (subst (λ (x : ℕ). Leads saturations waiting colors x best) end l);
+      }
 
 -- ---- the counts are those of the definition
 

@@ -2,6 +2,7 @@
 pub mod Items
 pub mod Counts
 pub mod Notes
+pub mod Stored
 pub mod Touched
 pub mod Around
 pub mod Taken

@@ -84,6 +84,11 @@ module _ (colors s w m : List ℕ) (u : ℕ) where
 unfoldable pub acrossAll : Kind → List ℕ → ℕ → List ℕ → List ℕ
 acrossAll kind ends w ks = map (λ (k : ℕ). acrossOf kind ends k w) ks
 
+pub across-more : (kind : Kind) (ends : List ℕ) (w : ℕ) (ks : List ℕ) (i : ℕ) → i < length ks
+    → acrossAll kind ends w (take (i + 1) ks) ≡ acrossAll kind ends w (take i ks) ++ acrossOf kind ends (getD ks i 0) w ∷ []
+unfolding acrossAll
+across-more kind ends w ks i h = rw (add-one i, take-suc ks i 0 h) (map-append (λ (k : ℕ). acrossOf kind ends k w) (take i ks) (getD ks i 0 ∷ []))
+
 -- Each item without a colour has room to note the colour as often as it stands among these.
 pub record Room (colors us saturations waiting marks : List ℕ) : Type 0 where
   pub at : (u : ℕ) → u < length colors → colorOf colors u ≡ noColor → (count u us ≤ getD waiting u 0) × (getD marks u 0 ≡ 0 → getD saturations u 0 < 65535)
@@ -114,10 +119,6 @@ module _ (kind : Kind) (ends colors edges : List ℕ) (v : ℕ) (s₀ w₀ m₀ 
   unfolding acrossAll
   across-cut h = ap (map (λ (k : ℕ). acrossOf kind ends k v)) (sym (take-append-drop i edges) ∙ ap (λ (l : List ℕ). take i edges ++ l) (drop-cons edges i 0 h)) ∙ map-append (λ (k : ℕ). acrossOf kind ends k v) (take i edges) (getD edges i 0 ∷ drop (suc i) edges)
 
-  across-more : i < length edges → acrossAll kind ends v (take (i + 1) edges) ≡ passed ++ acrossOf kind ends (getD edges i 0) v ∷ []
-  unfolding acrossAll
-  across-more h = rw (add-one i, take-suc edges i 0 h) (map-append (λ (k : ℕ). acrossOf kind ends k v) (take i edges) (getD edges i 0 ∷ []))
-
   pub notes-none : Noted colors (acrossAll kind ends v (take 0 edges)) s w m s w m
   unfolding acrossAll
   notes-none = noted-none colors s w m
@@ -133,7 +134,7 @@ module _ (kind : Kind) (ends colors edges : List ℕ) (v : ℕ) (s₀ w₀ m₀ 
 
   pub notes-more : (s′ w′ m′ : List ℕ) → Noted colors passed s₀ w₀ m₀ s w m → i < length edges
       → (u : ℕ) → u ≡ acrossOf kind ends (getD edges i 0) v → Noted colors (u ∷ []) s w m s′ w′ m′ → Noted colors (acrossAll kind ends v (take (i + 1) edges)) s₀ w₀ m₀ s′ w′ m′
-  notes-more s′ w′ m′ p h u e q = rw (across-more h, sym e) (noted-more colors passed (u ∷ []) s₀ w₀ m₀ s w m s′ w′ m′ p q)
+  notes-more s′ w′ m′ p h u e q = rw (across-more kind ends v edges i h, sym e) (noted-more colors passed (u ∷ []) s₀ w₀ m₀ s w m s′ w′ m′ p q)
 
   pub notes-all : Noted colors passed s₀ w₀ m₀ s w m → i ≤ length edges → length edges ≤ i → Noted colors (acrossAll kind ends v edges) s₀ w₀ m₀ s w m
   notes-all p h k = let e : i ≡ length edges = omega arith in rw (e, take-length edges) at p

@@ -5,7 +5,7 @@ use mathlib.Core.Logic.{inl, inr, _≢_}
 use mathlib.Core.List.{List}
 use native.Mathlib.Omega.{arith}
 use lib.ListN.{length, getD, set, length-set}
-use lib.Seq.{set-getD}
+use lib.Seq.{set-getD, getD-set-other}
 use Rattle.lists.specs.Tests.{dec-eq}
 use Rattle.lists.specs.Different.{different, count}
 use Rattle.graph.specs.Colored.{noColor, colorOf}
@@ -55,7 +55,7 @@ module _ (nb : ℕ → List ℕ) (n : ℕ) (hood : Neighborhood nb n) (colors s�
         );
   }
 
-  module _ (m₀ s w m : List ℕ) (known : Known nb colors c m₀) (noted : Noted (set colors v c) us s₀ w₀ m₀ s w m) where
+  module _ (m₀ s w m : List ℕ) (known : Known us nb colors c m₀) (noted : Noted (set colors v c) us s₀ w₀ m₀ s w m) where
     taken-counted : Counted nb n (set colors v c) s w
     taken-counted = record {
       waits = λ u b e.
@@ -71,10 +71,19 @@ module _ (nb : ℕ → List ℕ) (n : ℕ) (hood : Neighborhood nb n) (colors s�
           sym (saturation-among nb (set colors v c) u ∙ elim (dec-eq (getD m₀ u 0) 0) [
             | inl z ↦ elim (dec-eq (count u us) 0) [
               | inl k ↦ stays (λ p. absurd (omega (arith, mem-count v (nb u) p))) ∙ sym (t .not-yet k .0 ∙ before)
-              | inr k ↦ different-grows colors v c within bare real (nb u) (count-mem v (nb u) (omega arith)) (λ p. known .marked u (omega arith) (o .1) p z) ∙ sym (t .new z k .0 ∙ ap suc before)
+              | inr k ↦ different-grows colors v c within bare real (nb u) (count-mem v (nb u) (omega arith)) (λ p. known .marked u (count-mem u us (omega arith)) (omega arith) (o .1) p z) ∙ sym (t .new z k .0 ∙ ap suc before)
             ]
-            | inr z ↦ stays (λ p. known .old u (omega arith) (o .1) z) ∙ sym (t .old z .0 ∙ before)
+            | inr z ↦ stays (λ p. known .old u (count-mem u us (omega (arith, mem-count v (nb u) p))) (omega arith) (o .1) z) ∙ sym (t .old z .0 ∙ before)
           ]);
+    }
+
+-- The counts of an item with a colour do not matter.
+cleared : (nb : ℕ → List ℕ) (n : ℕ) (colors s w : List ℕ) (v : ℕ) → Counted nb n colors s w → colorOf colors v ≢ noColor → Counted nb n colors (set s v 0) (set w v 0)
+cleared nb n colors s w v counted colored =
+    let other : (u : ℕ) → colorOf colors u ≡ noColor → u ≢ v = λ u e p. colored (ap (colorOf colors) (sym p) ∙ e) in
+    record {
+      differs = λ u h e. getD-set-other s v u 0 0 (other u e) ∙ counted .differs u h e;
+      waits = λ u h e. getD-set-other w v u 0 0 (other u e) ∙ counted .waits u h e;
     }
 
 -- The mark of no colour changes nothing.
@@ -111,11 +120,14 @@ module _ (kind : Kind) (ends starts entries colors s₀ w₀ : List ℕ) (v c : 
   pub take-sizes : (m : List ℕ) → length colors ≤ length m → (length (set colors v c) ≤ length s₀) × (length (set colors v c) ≤ length w₀) × (length (set colors v c) ≤ length m)
   take-sizes m h = rw (length-set colors v c) (ready .saturations-room, ready .waiting-room, h)
 
-  pub take-ready : (m₀ s w m : List ℕ) → Known (neighborsOf kind ends) colors c m₀ → Noted (set colors v c) us s₀ w₀ m₀ s w m
-      → length s ≡ length s₀ → length w ≡ length w₀ → Ready kind ends starts entries (set colors v c) s w
-  take-ready m₀ s w m known noted ls lw = record {
-    tabled = take-tabled;
-    counted = rw (length-set colors v c) (taken-counted (neighborsOf kind ends) (length colors) hood colors s₀ w₀ us v c refl (ready .counted) inside bare real (λ u d. around-times kind ends starts entries (length colors) (ready .tabled) v u inside d) m₀ s w m known noted);
-    saturations-room = omega (arith, ready .saturations-room, length-set colors v c);
-    waiting-room = omega (arith, ready .waiting-room, length-set colors v c);
-  }
+  -- The counts afterwards, those of v cleared.
+  pub take-ready : (m₀ s w m : List ℕ) → Known us (neighborsOf kind ends) colors c m₀ → Noted (set colors v c) us s₀ w₀ m₀ s w m
+      → length s ≡ length s₀ → length w ≡ length w₀ → Ready kind ends starts entries (set colors v c) (set s v 0) (set w v 0)
+  take-ready m₀ s w m known noted ls lw =
+      let counts = taken-counted (neighborsOf kind ends) (length colors) hood colors s₀ w₀ us v c refl (ready .counted) inside bare real (λ u d. around-times kind ends starts entries (length colors) (ready .tabled) v u inside d) m₀ s w m known noted in
+      record {
+        tabled = take-tabled;
+        counted = rw (length-set colors v c) (cleared (neighborsOf kind ends) (length colors) (set colors v c) s w v counts (λ e. real (sym (color-set-same colors v c inside) ∙ e)));
+        saturations-room = omega (arith, ready .saturations-room, length-set colors v c, length-set s v 0);
+        waiting-room = omega (arith, ready .waiting-room, length-set colors v c, length-set w v 0);
+      }

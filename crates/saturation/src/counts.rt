@@ -132,7 +132,7 @@ fn note_neighbors(
     );
 }
 
-// An item without a colour takes one, or stays without.
+// An item without a colour takes one, or stays without. With a colour it has no counts, so that it goes before no other.
 pub(crate) fn take_color(
     kind: Kind,
     ends: &[u16],
@@ -153,7 +153,7 @@ pub(crate) fn take_color(
         return;
     }
     let mut marks = [0u8; 4096];
-    mark_known(kind, ends, colors, color, &mut marks);
+    mark_known(kind, ends, starts, entries, colors, color, &mut marks, item);
     let v = item.0 as usize;
     colors[v] = color.0;
     note_neighbors(
@@ -167,4 +167,6 @@ pub(crate) fn take_color(
         &mut marks,
         item,
     );
+    saturations[v] = 0;
+    waiting[v] = 0;
 }

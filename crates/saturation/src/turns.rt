@@ -6,7 +6,7 @@ ghost use Rattle.greedy.specs.Saturation.{saturationColors};
 ghost use Rattle.saturation.specs.Items.{neighborsOf, Tabled};
 ghost use Rattle.saturation.specs.Taken.{Ready};
 ghost use Rattle.saturation.specs.Start.{Preset};
-ghost use Rattle.saturation.specs.Choice.{leads, Chosen};
+ghost use Rattle.saturation.specs.Choice.{FirstUncolored, leads, Chosen};
 ghost use Rattle.saturation.specs.Turns.{turnOf};
 use crate::counts::start;
 use crate::counts::take_color;
@@ -34,26 +34,40 @@ fn goes_before(saturations: &[u16], waiting: &[u16], item: Item, other: Item) ->
     saturations[v] < saturations[u]
 }
 
-// The lowest of the items without a colour that no other goes before.
+// The lowest item without a colour, or the number of items where each has one.
+fn first_uncolored(colors: &[u16]) -> usize
+    ensures { λ r. ⌜ (r ≤ length (now (colors .entry))) × FirstUncolored (now (colors .entry)) r ⌝ }
+{
+    let mut v = 0;
+    while v < colors.len() {
+        if colors[v] == Color::NONE {
+            return v;
+        }
+        v += 1;
+    }
+    v
+}
+
+// The lowest of the items without a colour that no other goes before. The counts are compared first: those of an item with a colour are 0,
+// so it goes before none.
 fn choose(colors: &[u16], saturations: &[u16], waiting: &[u16]) -> Choice
     requires { ⌜ (length (now colors) ≤ 4096) × (length (now colors) ≤ length (now saturations)) × (length (now colors) ≤ length (now waiting)) ⌝ }
     ensures { λ r. ⌜ Chosen (now (colors .entry)) (now (saturations .entry)) (now (waiting .entry)) r ⌝ }
 {
-    let mut best = colors.len();
-    let mut v = 0;
+    let first = first_uncolored(colors);
+    if first == colors.len() {
+        return Choice::Nothing;
+    }
+    let mut best = first;
+    let mut v = first + 1;
     while v < colors.len() {
         let item = v;
         v += 1;
-        if colors[item] == Color::NONE {
-            if best == colors.len() {
-                best = item;
-            } else if goes_before(saturations, waiting, Item(item as u16), Item(best as u16)) {
+        if goes_before(saturations, waiting, Item(item as u16), Item(best as u16)) {
+            if colors[item] == Color::NONE {
                 best = item;
             }
         }
-    }
-    if best == colors.len() {
-        return Choice::Nothing;
     }
     Choice::Next(Item(best as u16))
 }

@@ -16,7 +16,7 @@ note-neighbors-requires c κs =
     let a = c .before .before .before .before .before .before .before .before .before .before .before .before .before .before .before .before .before .pre .1 in
     let n = c .before .before .before .before .before .before .before .before .before .if1 .left in
     let few = items-few _ _ _ (r .tabled .sized) in
-    (take-tabled _ _ _ _ _ _ _ _ _ r (a .0) (a .1) n, (take-inside _ _ _ _ _ _ _ _ _ r (a .0) (a .1) n, (take-room _ _ _ _ _ _ _ _ _ r (a .0) (a .1) n _, take-sizes _ _ _ _ _ _ _ _ _ r (a .0) (a .1) n (c .before .before .before .before .before .before .mark-known .last .1 .1 .1 .1 .0) (omega (arith, few, c .before .before .before .before .before .before .mark-known .kept .1 .1 .1 .1 .0)))))
+    (take-tabled _ _ _ _ _ _ _ _ _ r (a .0) (a .1) n, (take-inside _ _ _ _ _ _ _ _ _ r (a .0) (a .1) n, (take-room _ _ _ _ _ _ _ _ _ r (a .0) (a .1) n _, take-sizes _ _ _ _ _ _ _ _ _ r (a .0) (a .1) n (c .before .before .before .before .before .before .mark-known .last .1 .1 .1 .1 .1 .1 .0) (omega (arith, few, c .before .before .before .before .before .before .mark-known .kept .1 .1 .1 .1 .1 .1 .0)))))
 
 returns-2 : tie.Need-returns-2
 returns-2 c =
@@ -33,5 +33,5 @@ take-color-spec =
     returns
     (λ c. search needs) (λ c κs. search needs) (λ c. search needs) (λ c. search needs) (λ c. search needs) (λ c. search needs)
     note-neighbors-requires
-    (λ c. search needs) (λ c. search needs) (λ c. search needs)
+    (λ c. search needs) (λ c. search needs) (λ c. search needs) (λ c. search needs) (λ c. search needs) (λ c. search needs) (λ c. search needs)
     returns-2)
