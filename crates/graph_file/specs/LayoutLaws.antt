@@ -10,11 +10,11 @@ use lib.Seq.{take-append-seam, drop-append-seam}
 use lib.Dec.{ltb, eqb}
 use borrow.Author.Tests.{le-ltb, eq-eqb, ltb-false, eqb-true}
 use Rattle.lists.specs.Tests.{by-test, and-true}
-use Rattle.lists.specs.Search.{allBelow}
+use Rattle.lists.specs.Search.{allBelow, all-below-cons, all-below-append}
 use Rattle.graph.specs.Edges.{edgeCount}
 use Rattle.graph_file.specs.File.{number16, numbers, Field, firstField, fieldsUpTo, fields, File, isEnds, afterNodes, isNodes, numberOf, graphOf, mostBytes, fileOf, tagBit}
 use Rattle.graph_file.specs.Layout.{bytes16, bytesOf, fieldBytes, graphBytes, LaidOut}
-use Rattle.graph_file.specs.NumberLaws.{length-numbers, length-bytes, number-of-bytes, numbers-of-bytes, bytes-of-number, all-below-cons, all-below-append, number-below, bytes-of-numbers}
+use Rattle.graph_file.specs.NumberLaws.{length-numbers, length-bytes, number-of-bytes, numbers-of-bytes, bytes-of-number, number-below, bytes-of-numbers}
 use Rattle.graph_file.specs.FieldLaws.{first-whole, field-shape, fields-then, fields-truncated, none-then, fields-end, fields-more}
 
 -- ---- what is laid out is read back

@@ -6,10 +6,9 @@ use mathlib.Core.List.{List, [], _∷_, _++_}
 use native.Mathlib.Omega.{arith}
 use lib.ListN.{length, getD, take, drop, set}
 use lib.Seq.{take-length}
-use lib.Dec.{ltb}
-use borrow.Author.Tests.{lt-ltb, ltb-true}
-use Rattle.lists.specs.Tests.{and-true, true-and}
-use Rattle.lists.specs.Search.{allBelow}
+use borrow.Author.Tests.{lt-ltb}
+use Rattle.lists.specs.Tests.{true-and}
+use Rattle.lists.specs.Search.{allBelow, all-below-cons}
 use Rattle.lists.specs.Parts.{copied-next}
 use Rattle.graph.specs.Table.{over}
 use Rattle.graph_file.specs.File.{number16, numbers}
@@ -51,18 +50,6 @@ bytes-of-number low high h =
     let p : (low + 256 * high) % 256 ≡ low = omega arith in
     let q : (low + 256 * high) / 256 ≡ high = omega arith in
     rw (p, q)
-
-pub all-below-cons : (n x : ℕ) (xs : List ℕ) → allBelow n (x ∷ xs) ≡ true → (x < n) × (allBelow n xs ≡ true)
-unfolding allBelow
-all-below-cons n x xs e = let r = and-true (ltb x n) (allBelow n xs) e in (ltb-true x n (r .0), r .1)
-
-pub all-below-append : (n : ℕ) (xs ys : List ℕ) → allBelow n (xs ++ ys) ≡ true → (allBelow n xs ≡ true) × (allBelow n ys ≡ true)
-unfolding allBelow
-all-below-append n [] ys e = (refl, e)
-all-below-append n (x ∷ xs) ys e =
-    let r = and-true (ltb x n) (allBelow n (xs ++ ys)) e in
-    let s = all-below-append n xs ys (r .1) in
-    (true-and (ltb x n) (allBelow n xs) (r .0) (s .0), s .1)
 
 pub number-below : (low high : ℕ) → low < 256 → high < 256 → number16 low high < 65536
 unfolding number16

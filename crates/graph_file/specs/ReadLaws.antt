@@ -2,7 +2,7 @@
 use Prim.Native.Nat.{ℕ, suc, _+_, _*_, _-_, _≤_, _<_, _%_, _/_}
 use mathlib.Core.Path.{_≡_, refl, sym, ap, _∙_}
 use mathlib.Core.Logic.{inl, inr}
-use mathlib.Core.Bool.{Bool, true, false, _&&_}
+use mathlib.Core.Bool.{true, false}
 use mathlib.Core.List.{List, [], _∷_}
 use mathlib.Core.Option.{none, some, bind}
 use native.Mathlib.Omega.{arith}
@@ -10,7 +10,7 @@ use lib.ListN.{length, getD, take, drop, length-drop}
 use lib.Seq.{drop-cons, drop-drop, length-take-le, getD-take, getD-drop}
 use lib.Dec.{eqb}
 use borrow.Author.Tests.{lt-ltb, le-ltb, eq-eqb, ne-eqb}
-use Rattle.lists.specs.Tests.{dec-eq}
+use Rattle.lists.specs.Tests.{dec-eq, false-and, and-false}
 use Rattle.graph_file.specs.File.{number16, Field, firstField, fields, isEnds, afterNodes, isNodes, numberOf, graphOf, mostBytes, fileOf, tagBit}
 use Rattle.graph_file.specs.Places.{fieldThere, behind, shownField, fileThere, shownFile}
 use Rattle.graph_file.specs.FieldLaws.{first-truncated, first-whole, header-short, fields-then, fields-truncated, none-then, fields-end, fields-more}
@@ -71,13 +71,6 @@ not-ends : (n : ℕ) (field : Field) (fs : List Field) → isEnds field ≡ fals
 unfolding afterNodes
 not-ends n field [] e = rw e
 not-ends n field (other ∷ fs) e = refl
-
-false-and : (a b : Bool) → a ≡ false → a && b ≡ false
-false-and a b e = rw e
-
-and-false : (a b : Bool) → b ≡ false → a && b ≡ false
-and-false true b e = e
-and-false false b e = refl
 
 field-size : (bytes : List ℕ) (p : FieldPlace) → p .start + p .length ≤ length bytes → length (take (p .length) (drop (p .start) bytes)) ≡ p .length
 field-size bytes p h = length-take-le (p .length) (drop (p .start) bytes) (omega (arith, length-drop (p .start) bytes))

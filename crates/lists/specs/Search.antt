@@ -2,7 +2,7 @@
 use Prim.Native.Nat.{ℕ, zero, suc, _+_, _≤_, _<_}
 use mathlib.Core.Path.{_≡_, refl, sym, ap, _∙_}
 use mathlib.Core.Logic.{inl, inr}
-use mathlib.Core.List.{List, [], _∷_}
+use mathlib.Core.List.{List, [], _∷_, _++_}
 use mathlib.Core.Bool.{Bool, true, false, _&&_, _||_, false≢true}
 use native.Mathlib.Omega.{arith}
 use native.Mathlib.Numerals.{add-one}
@@ -29,6 +29,18 @@ unfolding allBelow
 below-all n [] h = refl
 below-all n (x ∷ xs) h = true-and (ltb x n) (allBelow n xs) (lt-ltb x n (h 0 (omega arith))) (below-all n xs (λ i b. h (suc i) (omega arith)))
 
+pub all-below-cons : (n x : ℕ) (xs : List ℕ) → allBelow n (x ∷ xs) ≡ true → (x < n) × (allBelow n xs ≡ true)
+unfolding allBelow
+all-below-cons n x xs e = let r = and-true (ltb x n) (allBelow n xs) e in (ltb-true x n (r .0), r .1)
+
+pub all-below-append : (n : ℕ) (xs ys : List ℕ) → allBelow n (xs ++ ys) ≡ true → (allBelow n xs ≡ true) × (allBelow n ys ≡ true)
+unfolding allBelow
+all-below-append n [] ys e = (refl, e)
+all-below-append n (x ∷ xs) ys e =
+    let r = and-true (ltb x n) (allBelow n (xs ++ ys)) e in
+    let s = all-below-append n xs ys (r .1) in
+    (true-and (ltb x n) (allBelow n xs) (r .0) (s .0), s .1)
+
 -- One number more.
 below-more : (n : ℕ) (s : List ℕ) (i : ℕ) → i < length s → allBelow n (take (suc i) s) ≡ allBelow n (take i s) && ltb (getD s i 0) n
 unfolding allBelow
@@ -41,7 +53,7 @@ pub all-below-kept : (n : ℕ) (s : List ℕ) (i : ℕ) (r : Bool) → r ≡ all
 all-below-kept n s i r e h b = rw (add-one i, below-more n s i h, sym e, lt-ltb (getD s i 0) n b) (sym (and-right r))
 
 pub all-below-broken : (n : ℕ) (s : List ℕ) (i : ℕ) → i < length s → n ≤ getD s i 0 → false ≡ allBelow n (take (i + 1) s)
-all-below-broken n s i h b = rw (add-one i, below-more n s i h, le-ltb (getD s i 0) n b) (sym (and-false (allBelow n (take i s))))
+all-below-broken n s i h b = rw (add-one i, below-more n s i h, le-ltb (getD s i 0) n b) (sym (and-false (allBelow n (take i s)) false refl))
 
 pub all-below-all : (n : ℕ) (s : List ℕ) (i : ℕ) (r : Bool) → r ≡ allBelow n (take i s) → length s ≤ i → r ≡ allBelow n s
 all-below-all n s i r e h = e ∙ ap (allBelow n) (take-all i s h)

@@ -29,9 +29,12 @@ pub and-right : (a : Bool) → a && true ≡ a
 and-right true = refl
 and-right false = refl
 
-pub and-false : (a : Bool) → a && false ≡ false
-and-false true = refl
-and-false false = refl
+pub false-and : (a b : Bool) → a ≡ false → a && b ≡ false
+false-and a b e = rw e
+
+pub and-false : (a b : Bool) → b ≡ false → a && b ≡ false
+and-false true b e = e
+and-false false b e = refl
 
 pub and-assoc : (a b c : Bool) → a && (b && c) ≡ (a && b) && c
 and-assoc true b c = refl
