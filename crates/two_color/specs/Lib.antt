@@ -4,6 +4,5 @@ pub mod Walk
 pub mod Sides
 pub mod SideLaws
 pub mod TwoColor
-pub mod Queue
-pub mod Search
+pub mod Components
 pub mod TwoColorLaws

@@ -10,13 +10,12 @@ ghost use Rattle.graph.specs.Color.{colored};
 ghost use Rattle.graph.specs.Check.{_gives_};
 ghost use Rattle.two_color.specs.TwoColor.{twoColor, sidesOutcome, ProofPrinter};
 use graph::Checked;
-use graph::Color;
 use graph::Coloring;
 use graph::Refusal;
 use graph::check_graph;
 use graph::days_of;
 
-mod search;
+mod components;
 
 // The colours as bytes.
 fn copy_out(sides: &[u16], colors: &mut [u8])
@@ -37,11 +36,10 @@ fn color_checked(n: usize, ends: &[u16], colors: &mut [u8]) -> Coloring
     ensures { λ r. ⌜ reportOfColoring r ≡ sidesOutcome n (now (ends .entry)) (now (colors .entry)) .report ⌝ }
     ensures { λ _. ⌜ now (colors .exit) ≡ sidesOutcome n (now (ends .entry)) (now (colors .entry)) .colors ⌝ }
 {
-    let mut starts = [0u16; 513];
-    let mut entries = [0u16; 8192];
-    let mut sides = [Color::NONE; 512];
-    let mut queue = [0u16; 512];
-    if search::color_nodes(n, ends, &mut starts, &mut entries, &mut sides, &mut queue) {
+    let mut up = [0u16; 512];
+    let mut flips = [false; 512];
+    let mut sides = [0u16; 512];
+    if components::color_nodes(n, ends, &mut up, &mut flips, &mut sides) {
         copy_out(&sides[..n], colors);
         let days = days_of(&sides[..n]);
         Coloring::Accepted { days }

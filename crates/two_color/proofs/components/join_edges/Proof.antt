@@ -1,0 +1,54 @@
+-- `join_edges` meets its contract. The invariant: the edges passed are taken in, and none of them is inside one side.
+use Prim.Native.Nat.{_-_, _≤_}
+use mathlib.Core.Path.{_≡_, refl, _∙_}
+use mathlib.Core.Bool.{false}
+use native.Mathlib.Omega.{arith}
+use lib.ListN.{length}
+use borrow.Author.Needs.{needs}
+use borrow.Author.Tests.{not-true, not-false}
+use Rattle.graph.specs.Edges.{edgeCount}
+use Rattle.two_color.specs.Sides.{oddCycle}
+use Rattle.two_color.specs.Components.{Joined, taken-fine, taken-early, taken-all}
+use Rattle.two_color.proofs.components.join_edges.Statement.{statement}
+use Rattle.two_color.proofs.components.join_edges.Tie as tie
+
+abbrev Inv-loop : tie.InvT-loop
+Inv-loop ends up₀ flips₀ k₀ up flips k = (k ≤ edgeCount ends) × (oddCycle ends k ≡ false) × Joined ends k up flips × (length up ≡ length up₀) × (length flips ≡ length flips₀)
+
+abbrev μ-loop : tie.MeasureT-loop
+μ-loop ends up₀ flips₀ k₀ up flips k = edgeCount ends - k
+
+loop-holds : tie.Need-loop-holds Inv-loop μ-loop
+unfolding oddCycle
+loop-holds c = (omega arith, refl, c .before .before .before .pre .1, refl, refl)
+
+join-requires : tie.Need-join-requires Inv-loop μ-loop
+join-requires c κs = let i = c .before .before .before .loop .inv in (rw (i .3) (c .before .before .before .before .before .before .before .pre .0), ((c .before .before .loop-test .taken, i .1), i .2))
+
+returns : tie.Need-returns Inv-loop μ-loop
+returns c = taken-early _ _ _ _ _ (c .before .before .before .before .before .join .ensures) _ (omega arith) (not-true _ (c .if1 .taken))
+
+loop-again : tie.Need-loop-again Inv-loop μ-loop
+loop-again c =
+    let i = c .before .before .before .before .before .before .before .before .before .loop .inv in
+    let t = taken-fine _ _ _ _ _ (c .before .before .before .before .before .join .ensures) (not-false _ (c .if1 .left)) in
+    (omega arith, t .0, t .1, c .before .before .before .before .before .join .kept .1 .1 .0 ∙ i .3, c .before .before .before .before .before .join .kept .1 .1 .1 .0 ∙ i .4)
+
+returns-2 : tie.Need-returns-2 Inv-loop μ-loop
+returns-2 c = let i = c .before .loop .inv in taken-all _ _ _ _ _ (omega arith) (i .1) (i .2)
+
+pub join-edges-spec : {M : Type 1} → statement M
+join-edges-spec =
+    tie.close
+    (tie.spec
+    Inv-loop
+    μ-loop
+    loop-holds
+    (λ c. search needs)
+    join-requires
+    (λ c. search needs) (λ c. search needs)
+    returns
+    (λ c. search needs) (λ c. search needs)
+    loop-again
+    (λ c. search needs) (λ c. search needs)
+    returns-2)

@@ -1,0 +1,377 @@
+-- Components as trees: each node hangs under a lower one of its component, or is the lowest itself. What the functions over them do, and the laws that their proofs cite.
+use Prim.Native.Nat.{ℕ, zero, suc, _+_, _-_, _≤_, _<_}
+use mathlib.Core.Path.{_≡_, refl, sym, ap, _∙_}
+use mathlib.Core.Logic.{_⊎_, inl, inr, _≢_}
+use mathlib.Core.List.{List}
+use mathlib.Core.Bool.{Bool, true, false, not, _&&_, _||_, xor, Bool·beq, cond, and-true as and-with-true, and-false, false≢true, true≢false}
+use native.Mathlib.Numerals.{add-one}
+use native.Mathlib.Nat.{not-suc-le-zero}
+use native.Mathlib.Omega.{arith}
+use lib.ListN.{length, getD, set, take, replicate, length-set, getD-replicate}
+use lib.Seq.{getD-set-same, getD-set-other, getD-take, length-take-le, ext-getD}
+use lib.Dec.{eqb, ltb}
+use borrow.Author.Tests.{lt-ltb, le-ltb, eq-eqb, ne-eqb, eqb-true, eqb-false}
+use Rattle.lists.specs.Tests.{by-test, dec-eq, true-or}
+use Rattle.graph.specs.CheckLaws.{Passed}
+use Rattle.graph.specs.Edges.{firstEnd, secondEnd}
+use Rattle.two_color.specs.declared.components.Root.{Root}
+use Rattle.two_color.specs.Odd.{false-xor, xor-false}
+use Rattle.two_color.specs.Sides.{lower, givesWay, lowest, oddSide, oddCycle, sideColor, sides}
+use Rattle.two_color.specs.SideLaws.{length-sides, sides-at}
+
+-- The node that each hangs under, never a higher one, and whether it is on the other side than that node.
+pub record Forest (up : List ℕ) (flips : List Bool) : Type 0 where
+  pub size : length flips ≡ length up
+  pub above : (v : ℕ) → v < length up → getD up v 0 ≤ v
+
+-- v may hang under u: both are in one component, and on different sides where it flips; under itself only the lowest.
+pub record Hangs (low : ℕ → ℕ) (odd : ℕ → Bool) (v u : ℕ) (flip : Bool) : Type 0 where
+  pub together : low u ≡ low v
+  pub side : odd v ≡ xor flip (odd u)
+  pub root : u ≡ v → (low v ≡ v) × (odd v ≡ false)
+
+-- The trees are components, with these lowest nodes and sides.
+pub record Holds (low : ℕ → ℕ) (odd : ℕ → Bool) (up : List ℕ) (flips : List Bool) : Type 0 where
+  pub forest : Forest up flips
+  pub hangs : (v : ℕ) → v < length up → Hangs low odd v (getD up v 0) (getD flips v false)
+
+-- The trees are the components of the first k edges.
+abbrev pub Joined : List ℕ → ℕ → List ℕ → List Bool → Type 0
+Joined ends k = Holds (lowest ends k) (oddSide ends k)
+
+-- ---- one node is hung elsewhere
+
+module _ (up : List ℕ) (flips : List Bool) (forest : Forest up flips) (x : ℕ) (inside : x < length up) (u : ℕ) (flip : Bool) (le : u ≤ x) where
+  pub hung-forest : Forest (set up x u) (set flips x flip)
+  hung-forest = record {
+    size = simp length-set (forest .size);
+    above = λ v h. elim (dec-eq v x) [
+      | inl p ↦ rw (p, getD-set-same up x u 0 inside) le
+      | inr n ↦ rw (getD-set-other up x v u 0 n) (forest .above v (rw (length-set up x u) at h))
+    ];
+  }
+
+  hung-holds : (low : ℕ → ℕ) (odd : ℕ → Bool) → ((v : ℕ) → v < length up → v ≢ x → Hangs low odd v (getD up v 0) (getD flips v false)) → Hangs low odd x u flip → Holds low odd (set up x u) (set flips x flip)
+  hung-holds low odd others one = record {
+    forest = hung-forest;
+    hangs = λ v h. elim (dec-eq v x) [
+      | inl p ↦ rw (p, getD-set-same up x u 0 inside, getD-set-same flips x flip false (rw (forest .size) inside)) one
+      | inr n ↦ rw (getD-set-other up x v u 0 n, getD-set-other flips x v flip false n) (others v (rw (length-set up x u) at h) n)
+    ];
+  }
+
+-- ---- the root of a node's tree
+
+-- What is found of node v: the lowest node of its component, and v's side.
+pub record Found (low : ℕ → ℕ) (odd : ℕ → Bool) (v : ℕ) (r : Root) : Type 0 where
+  pub node : r .node .0 ≡ low v
+  pub side : r .odd ≡ odd v
+  pub own : (low (r .node .0) ≡ r .node .0) × (odd (r .node .0) ≡ false)
+
+-- Finding it leaves the components as they are, whichever they are.
+pub record Finds (up : List ℕ) (flips : List Bool) (v : ℕ) (r : Root) (up′ : List ℕ) (flips′ : List Bool) : Type 0 where
+  pub forest : Forest up′ flips′
+  pub inside : r .node .0 < length up′
+  pub right : (low : ℕ → ℕ) (odd : ℕ → Bool) → Holds low odd up flips → Found low odd v r × Holds low odd up′ flips′
+
+-- On the way up from v: x is in v's component, and on the other side than v where `odd` says so.
+pub record Climbs (up₀ : List ℕ) (flips₀ : List Bool) (v : ℕ) (up : List ℕ) (flips : List Bool) (x : ℕ) (odd : Bool) : Type 0 where
+  pub forest : Forest up flips
+  pub size : length up ≡ length up₀
+  pub inside : x < length up
+  pub right : (low : ℕ → ℕ) (side : ℕ → Bool) → Holds low side up₀ flips₀ → Holds low side up flips × (low x ≡ low v) × (side v ≡ xor odd (side x))
+
+xor-assoc : (a b c : Bool) → xor a (xor b c) ≡ xor (xor a b) c
+unfolding xor
+xor-assoc true true true = refl
+xor-assoc true true false = refl
+xor-assoc true false true = refl
+xor-assoc true false false = refl
+xor-assoc false true true = refl
+xor-assoc false true false = refl
+xor-assoc false false true = refl
+xor-assoc false false false = refl
+
+pub climb-none : (up : List ℕ) (flips : List Bool) (v : ℕ) → Forest up flips → v < length up → Climbs up flips v up flips v false
+climb-none up flips v forest h = record { forest = forest; size = refl; inside = h; right = λ low side holds. (holds, refl, sym (false-xor (side v))) }
+
+module _ (up₀ : List ℕ) (flips₀ : List Bool) (v : ℕ) (up : List ℕ) (flips : List Bool) (x : ℕ) (odd : Bool) (climbs : Climbs up₀ flips₀ v up flips x odd) where
+  -- The node above x, and the one above that.
+  abbrev next : ℕ
+  next = getD up x 0
+
+  abbrev above : ℕ
+  above = getD up next 0
+
+  pub next-inside : next < length up
+  next-inside = omega (arith, climbs .forest .above x (climbs .inside), climbs .inside)
+
+  above-le : above ≤ next
+  above-le = climbs .forest .above next next-inside
+
+  pub above-lower : (above ≡ next → ⊥) → above < x
+  above-lower n = omega (arith, climbs .forest .above x (climbs .inside), above-le)
+
+  pub climb-more : (above ≡ next → ⊥) → Climbs up₀ flips₀ v (set up x above) (set flips x (xor (getD flips x false) (getD flips next false))) above (xor odd (xor (getD flips x false) (getD flips next false)))
+  climb-more n =
+      let flip = xor (getD flips x false) (getD flips next false) in
+      let lt = above-lower n in
+      record {
+        forest = hung-forest up flips (climbs .forest) x (climbs .inside) above flip (omega arith);
+        size = length-set up x above ∙ climbs .size;
+        inside = rw (length-set up x above) (omega (arith, climbs .inside));
+        right = λ low side holds.
+            let r = climbs .right low side holds in
+            let h = r .0 .hangs x (climbs .inside) in
+            let g = r .0 .hangs next next-inside in
+            let s : side x ≡ xor flip (side above) = h .side ∙ (ap (xor (getD flips x false)) (g .side) ∙ xor-assoc (getD flips x false) (getD flips next false) (side above)) in
+            (hung-holds up flips (climbs .forest) x (climbs .inside) above flip (omega arith) low side (λ u b e. r .0 .hangs u b) (record { together = g .together ∙ h .together; side = s; root = λ p. absurd (omega arith) }),
+            g .together ∙ (h .together ∙ r .1),
+            r .2 ∙ (ap (xor odd) s ∙ xor-assoc odd flip (side above)));
+      }
+
+  pub climb-done : (r : Root) → above ≡ next → r .node .0 ≡ above → r .odd ≡ xor odd (getD flips x false) → Finds up₀ flips₀ v r up flips
+  climb-done r e p q = record {
+    forest = climbs .forest;
+    inside = omega (arith, next-inside);
+    right = λ low side holds.
+        let c = climbs .right low side holds in
+        let h = c .0 .hangs x (climbs .inside) in
+        let own = c .0 .hangs next next-inside .root e in
+        let n = p ∙ e in
+        (record {
+          node = n ∙ (sym (own .0) ∙ (h .together ∙ c .1));
+          side = q ∙ sym (c .2 ∙ ap (xor odd) (h .side ∙ (ap (xor (getD flips x false)) (own .1) ∙ xor-false (getD flips x false))));
+          own = rw n own;
+        }, c .0);
+  }
+
+-- ---- one edge more
+
+-- The first k edges are taken in, or one of them is inside one side.
+pub record Taken (ends : List ℕ) (k : ℕ) (up : List ℕ) (flips : List Bool) (r : Bool) : Type 0 where
+  pub answer : r ≡ not (oddCycle ends k)
+  pub joined : r ≡ true → Joined ends k up flips
+
+-- Of two different nodes the higher gives way, in whichever order they come.
+second-gives : (lo hi r : ℕ) → lo < hi → givesWay lo hi r ≡ eqb r hi
+unfolding givesWay lower
+second-gives lo hi r h = simp (lt-ltb lo hi h) (by-test (eqb r hi)
+    (λ t. let p = eqb-true r hi t in simp (true-or (eqb r lo) (eqb r hi) t, lt-ltb lo r (omega arith)) (sym t))
+    (λ t. by-test (eqb r lo) (λ s. let p = eqb-true r lo s in simp (t, s, le-ltb lo r (omega arith))) (λ s. simp (t, s))))
+
+first-gives : (lo hi r : ℕ) → lo < hi → givesWay hi lo r ≡ eqb r hi
+unfolding givesWay lower
+first-gives lo hi r h = simp (le-ltb hi lo (omega arith)) (by-test (eqb r hi)
+    (λ t. let p = eqb-true r hi t in simp (t, lt-ltb lo r (omega arith)))
+    (λ t. by-test (eqb r lo) (λ s. let p = eqb-true r lo s in simp (t, s, le-ltb lo r (omega arith))) (λ s. simp (t, s))))
+
+none-gives : (a b r : ℕ) → a ≡ b → givesWay a b r ≡ false
+unfolding givesWay lower
+none-gives a b r e = rw e (simp (le-ltb b b (omega arith)) (by-test (eqb r b)
+    (λ t. let p = eqb-true r b t in simp (t, le-ltb b r (omega arith))) (λ t. simp t)))
+
+second-lower : (lo hi : ℕ) → lo < hi → lower lo hi ≡ lo
+unfolding lower
+second-lower lo hi h = simp (lt-ltb lo hi h)
+
+first-lower : (lo hi : ℕ) → lo < hi → lower hi lo ≡ lo
+unfolding lower
+first-lower lo hi h = simp (le-ltb hi lo (omega arith))
+
+module _ (ends : List ℕ) (k : ℕ) where
+  -- Of the edges before edge k: the lowest nodes of its ends, and whether these are on the same side.
+  abbrev lowFirst : ℕ
+  lowFirst = lowest ends k (firstEnd ends k)
+
+  abbrev lowSecond : ℕ
+  lowSecond = lowest ends k (secondEnd ends k)
+
+  abbrev same : Bool
+  same = Bool·beq (oddSide ends k (firstEnd ends k)) (oddSide ends k (secondEnd ends k))
+
+  lowest-next : (v : ℕ) → lowest ends (suc k) v ≡ cond (givesWay lowFirst lowSecond (lowest ends k v)) (lower lowFirst lowSecond) (lowest ends k v)
+  unfolding lowest
+  lowest-next v = refl
+
+  odd-next : (v : ℕ) → oddSide ends (suc k) v ≡ xor (oddSide ends k v) (givesWay lowFirst lowSecond (lowest ends k v) && same)
+  unfolding oddSide
+  odd-next v = refl
+
+  cycle-next : oddCycle ends (suc k) ≡ oddCycle ends k || eqb lowFirst lowSecond && same
+  unfolding oddCycle
+  cycle-next = refl
+
+  -- ---- inside one component nothing changes
+
+  module _ (up : List ℕ) (flips : List Bool) (joined : Joined ends k up flips) (fine : oddCycle ends k ≡ false) where
+    kept-joined : lowFirst ≡ lowSecond → Joined ends (suc k) up flips
+    kept-joined e =
+        let low : (v : ℕ) → lowest ends (suc k) v ≡ lowest ends k v = λ v. lowest-next v ∙ simp (none-gives lowFirst lowSecond (lowest ends k v) e) in
+        let odd : (v : ℕ) → oddSide ends (suc k) v ≡ oddSide ends k v = λ v. odd-next v ∙ simp (none-gives lowFirst lowSecond (lowest ends k v) e, xor-false) in
+        record { forest = joined .forest; hangs = λ v h.
+            let g = joined .hangs v h in
+            record { together = low (getD up v 0) ∙ (g .together ∙ sym (low v)); side = odd v ∙ (g .side ∙ ap (xor (getD flips v false)) (sym (odd (getD up v 0)))); root = λ p. let o = g .root p in (low v ∙ o .0, odd v ∙ o .1) } }
+
+    edge-inside : lowFirst ≡ lowSecond → Taken ends (k + 1) up flips (not same)
+    edge-inside e = rw (add-one k) (record { answer = rw cycle-next (simp (fine, eq-eqb lowFirst lowSecond e)); joined = λ t. kept-joined e })
+
+    -- ---- two components become one
+
+    module _ (lo hi : ℕ) (lt : lo < hi) (gives : (r : ℕ) → givesWay lowFirst lowSecond r ≡ eqb r hi) (least : lower lowFirst lowSecond ≡ lo) (apart : lowFirst ≢ lowSecond)
+        (low-own : (lowest ends k lo ≡ lo) × (oddSide ends k lo ≡ false)) (high-own : (lowest ends k hi ≡ hi) × (oddSide ends k hi ≡ false)) (inside : hi < length up) where
+      low : (v : ℕ) → lowest ends (suc k) v ≡ cond (eqb (lowest ends k v) hi) lo (lowest ends k v)
+      low v = lowest-next v ∙ simp (gives (lowest ends k v), least)
+
+      odd : (v : ℕ) → oddSide ends (suc k) v ≡ xor (oddSide ends k v) (eqb (lowest ends k v) hi && same)
+      odd v = odd-next v ∙ simp (gives (lowest ends k v))
+
+      -- A root other than the higher one stays.
+      stays : (w : ℕ) → w ≢ hi → (lowest ends k w ≡ w) × (oddSide ends k w ≡ false) → (lowest ends (suc k) w ≡ w) × (oddSide ends (suc k) w ≡ false)
+      stays w n (p, q) = (low w ∙ simp (p, ne-eqb w hi n), odd w ∙ simp (p, ne-eqb w hi n, q, xor-false))
+
+      hung-joined : Joined ends (suc k) (set up hi lo) (set flips hi same)
+      hung-joined =
+          let here = stays lo (λ p. omega arith) low-own in
+          hung-holds up flips (joined .forest) hi inside lo same (omega arith) (lowest ends (suc k)) (oddSide ends (suc k))
+          (λ v h n.
+            let g = joined .hangs v h in
+            record {
+              together = low (getD up v 0) ∙ (ap (λ (r : ℕ). cond (eqb r hi) lo r) (g .together) ∙ sym (low v));
+              side = odd v ∙ rw (g .side, ← xor-assoc) (ap (xor (getD flips v false)) (rw (← g .together) (sym (odd (getD up v 0)))));
+              root = λ p. stays v n (g .root p);
+            })
+          (record {
+            together = here .0 ∙ sym (low hi ∙ simp (high-own .0, eq-eqb hi hi refl));
+            side = odd hi ∙ simp (high-own .0, high-own .1, eq-eqb hi hi refl, here .1, xor-false, false-xor);
+            root = λ p. absurd (omega arith);
+          })
+
+      taken-apart : Taken ends (k + 1) (set up hi lo) (set flips hi same) true
+      taken-apart = rw (add-one k) (record { answer = rw cycle-next (simp (fine, ne-eqb lowFirst lowSecond apart)); joined = λ t. hung-joined })
+
+    -- ---- as the code finds the roots of the two ends
+
+    module _ (first second : Root) (a : Found (lowest ends k) (oddSide ends k) (firstEnd ends k) first) (b : Found (lowest ends k) (oddSide ends k) (secondEnd ends k) second) where
+      pub join-inside : first .node .0 ≡ second .node .0 → Taken ends (k + 1) up flips (not (Bool·beq (first .odd) (second .odd)))
+      join-inside e = rw (a .side, b .side) (edge-inside (sym (a .node) ∙ (e ∙ b .node)))
+
+      pub join-second : first .node .0 < second .node .0 → second .node .0 < length up →
+          Taken ends (k + 1) (set up (second .node .0) (first .node .0)) (set flips (second .node .0) (Bool·beq (first .odd) (second .odd))) true
+      join-second h i = rw (a .side, b .side) (taken-apart (first .node .0) (second .node .0) h
+          (λ r. rw (← a .node, ← b .node) (second-gives (first .node .0) (second .node .0) r h)) (rw (← a .node, ← b .node) (second-lower (first .node .0) (second .node .0) h))
+          (λ e. omega (arith, a .node, b .node)) (a .own) (b .own) i)
+
+      pub join-first : second .node .0 < first .node .0 → first .node .0 < length up →
+          Taken ends (k + 1) (set up (first .node .0) (second .node .0)) (set flips (first .node .0) (Bool·beq (first .odd) (second .odd))) true
+      join-first h i = rw (a .side, b .side) (taken-apart (second .node .0) (first .node .0) h
+          (λ r. rw (← a .node, ← b .node) (first-gives (second .node .0) (first .node .0) r h)) (rw (← a .node, ← b .node) (first-lower (second .node .0) (first .node .0) h))
+          (λ e. omega (arith, a .node, b .node)) (b .own) (a .own) i)
+
+-- ---- all edges
+
+-- Every node by itself.
+pub own-more : (up : List ℕ) (v : ℕ) → ((u : ℕ) → u < v → getD up u 0 ≡ u) → v < length up → (u : ℕ) → u < v + 1 → getD (set up v v) u 0 ≡ u
+own-more up v own i u h = elim (dec-eq u v) [ inl p ↦ rw p (getD-set-same up v v 0 i) | inr n ↦ getD-set-other up v u v 0 n ∙ own u (omega arith) ]
+
+pub joined-none : (ends up : List ℕ) (flips : List Bool) → ((v : ℕ) → v < length up → getD up v 0 ≡ v) → length up ≡ 512 → flips ≡ replicate 512 false → Joined ends 0 up flips
+unfolding lowest oddSide
+joined-none ends up flips own n e = record {
+  forest = record { size = ap length e ∙ sym n; above = λ v h. omega (arith, own v h) };
+  hangs = λ v h. record { together = own v h; side = rw (e, getD-replicate 512 v false false (rw n at h)) (sym (false-xor false)); root = λ p. (refl, refl) };
+}
+
+-- The trees have room for every node.
+pub room-passed : (n room : ℕ) (ends : List ℕ) → Passed n ends → room ≡ 512 → Passed room ends
+room-passed n room ends p e = record { nodes = omega arith; even = p .even; edges = p .edges; inside = λ i h. omega (arith, p .nodes, p .inside i h) }
+
+-- An edge inside one side stays one of the edges.
+cycle-later : (ends : List ℕ) (k m : ℕ) → k ≤ m → oddCycle ends k ≡ true → oddCycle ends m ≡ true
+cycle-later ends k zero h e = let z : k ≡ 0 = omega arith in rw z at e
+cycle-later ends k (suc m) h e = elim (dec-eq k (suc m)) [
+  | inl p ↦ rw p at e
+  | inr n ↦ rw (cycle-next ends m, cycle-later ends k m (omega arith) e)
+]
+
+module _ (ends : List ℕ) (k : ℕ) (up : List ℕ) (flips : List Bool) (r : Bool) (taken : Taken ends k up flips r) where
+  pub taken-fine : r ≡ true → (oddCycle ends k ≡ false) × Joined ends k up flips
+  taken-fine t = (by-test (oddCycle ends k) (λ e. absurd (false≢true (sym (simp e at (taken .answer)) ∙ t))) (λ e. e), taken .joined t)
+
+  pub taken-clash : r ≡ false → oddCycle ends k ≡ true
+  taken-clash t = by-test (oddCycle ends k) (λ e. e) (λ e. absurd (true≢false (sym (simp e at (taken .answer)) ∙ t)))
+
+  pub taken-early : (m : ℕ) → k ≤ m → r ≡ false → Taken ends m up flips false
+  taken-early m h t = record { answer = rw (cycle-later ends k m h (taken-clash t)); joined = λ e. absurd (false≢true e) }
+
+pub taken-all : (ends : List ℕ) (k m : ℕ) (up : List ℕ) (flips : List Bool) → k ≡ m → oddCycle ends k ≡ false → Joined ends k up flips → Taken ends m up flips true
+taken-all ends k m up flips p e joined = rw (← p) (record { answer = rw e; joined = λ t. joined })
+
+-- ---- the colours
+
+-- Each node has the colour of its side.
+abbrev pub Sided : (ℕ → Bool) → ℕ → List ℕ → Type 0
+Sided odd n colors = (v : ℕ) → v < n → getD colors v 0 ≡ cond (odd v) 0 1
+
+-- The first v of n nodes have the colours of their sides, whichever sides the trees hold.
+pub record Colored (n : ℕ) (up : List ℕ) (flips : List Bool) (colors₀ : List ℕ) (colors : List ℕ) (v : ℕ) : Type 0 where
+  pub forest : Forest up flips
+  pub room : (n ≤ length up) × (n ≤ length colors)
+  pub size : length colors ≡ length colors₀
+  pub bound : v ≤ n
+  pub two : (u : ℕ) → u < v → getD colors u 0 ≤ 1
+  pub right : (low : ℕ → ℕ) (odd : ℕ → Bool) → Holds low odd up flips → Sided odd v colors
+
+pub colored-none : (n : ℕ) (up : List ℕ) (flips : List Bool) (colors : List ℕ) → Forest up flips → (n ≤ length up) × (n ≤ length colors) → Colored n up flips colors colors 0
+colored-none n up flips colors forest room =
+    record { forest = forest; room = room; size = refl; bound = omega arith; two = λ u h. absurd (not-suc-le-zero h); right = λ low odd holds u h. absurd (not-suc-le-zero h) }
+
+other-side : (b : Bool) → 1 - cond b 0 1 ≡ cond (xor true b) 0 1
+unfolding xor
+other-side true = refl
+other-side false = refl
+
+module _ (n : ℕ) (up : List ℕ) (flips : List Bool) (colors₀ : List ℕ) (colors : List ℕ) (v : ℕ) (colored : Colored n up flips colors₀ colors v) (more : v < n) where
+  inside : v < length up
+  inside = omega (arith, colored .room .0)
+
+  colored-more : (c : ℕ) (colors′ : List ℕ) → colors′ ≡ set colors v c → c ≤ 1 → ((low : ℕ → ℕ) (odd : ℕ → Bool) → Holds low odd up flips → c ≡ cond (odd v) 0 1) → Colored n up flips colors₀ colors′ (v + 1)
+  colored-more c colors′ p b e =
+      let same = length-set colors v c in
+      let new = getD-set-same colors v c 0 (omega (arith, colored .room .1)) in
+      rw p (record {
+        forest = colored .forest;
+        room = (colored .room .0, rw same (colored .room .1));
+        size = same ∙ colored .size;
+        bound = omega arith;
+        two = λ u h. elim (dec-eq u v) [ inl q ↦ rw (q, new) b | inr o ↦ rw (getD-set-other colors v u c 0 o) (colored .two u (omega arith)) ];
+        right = λ low odd holds u h. elim (dec-eq u v) [
+          | inl q ↦ rw (q, new) (e low odd holds)
+          | inr o ↦ rw (getD-set-other colors v u c 0 o) (colored .right low odd holds u (omega arith))
+        ];
+      })
+
+  pub colored-root : (colors′ : List ℕ) → getD up v 0 ≡ v → colors′ ≡ set colors v 1 → Colored n up flips colors₀ colors′ (v + 1)
+  colored-root colors′ p q = colored-more 1 colors′ q (omega arith) (λ low odd holds. simp (holds .hangs v inside .root p .1))
+
+  module _ (hung : getD up v 0 ≡ v → ⊥) where
+    above-before : getD up v 0 < v
+    above-before = omega (arith, colored .forest .above v inside)
+
+    pub above-colored : getD up v 0 < length colors
+    above-colored = omega (arith, above-before, colored .room .1)
+
+    pub above-two : getD colors (getD up v 0) 0 ≤ 1
+    above-two = colored .two (getD up v 0) above-before
+
+    pub colored-same : (colors′ : List ℕ) → getD flips v false ≡ false → colors′ ≡ set colors v (getD colors (getD up v 0) 0) → Colored n up flips colors₀ colors′ (v + 1)
+    colored-same colors′ e q = colored-more (getD colors (getD up v 0) 0) colors′ q above-two (λ low odd holds.
+        colored .right low odd holds (getD up v 0) above-before ∙ simp (holds .hangs v inside .side, e, false-xor))
+
+    pub colored-other : (c : ℕ) (colors′ : List ℕ) → getD flips v false ≡ true → c ≡ 1 - getD colors (getD up v 0) 0 → colors′ ≡ set colors v c → Colored n up flips colors₀ colors′ (v + 1)
+    colored-other c colors′ e p q = colored-more c colors′ q (omega arith) (λ low odd holds.
+        p ∙ rw (colored .right low odd holds (getD up v 0) above-before, holds .hangs v inside .side, e) (other-side (odd (getD up v 0))))
+
+pub colored-all : (ends : List ℕ) (m n : ℕ) (colors : List ℕ) → Sided (oddSide ends m) n colors → n ≤ length colors → take n colors ≡ sides ends m n
+unfolding sideColor
+colored-all ends m n colors sided h = ext-getD 0 (take n colors) (sides ends m n) (length-take-le n colors h ∙ sym (length-sides ends m n))
+    (λ v b. let i : v < n = rw (length-take-le n colors h) at b in getD-take n colors v 0 i ∙ (sided v i ∙ sym (sides-at ends m n v i)))

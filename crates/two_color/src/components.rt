@@ -1,0 +1,136 @@
+// Components and sides, one edge after the other: disjoint sets, as trees in which each node hangs under a lower one.
+ghost use mathlib.Core.Path.{_≡_};
+ghost use mathlib.Core.Bool.{Bool, true, false};
+ghost use Prim.Native.Nat.{ℕ, suc, _+_, _-_, _≤_, _<_};
+ghost use lib.ListN.{length, getD, take, replicate};
+ghost use Rattle.graph.specs.CheckLaws.{Passed};
+ghost use Rattle.graph.specs.Edges.{edgeCount};
+ghost use Rattle.two_color.specs.Sides.{oddCycle, sides};
+ghost use Rattle.two_color.specs.Components.{Forest, Holds, Joined, Finds, Taken, Sided};
+use graph::EdgeIndex;
+use graph::NodeIndex;
+
+// The lowest node of a component, and whether the node that it was asked for is on the odd side.
+pub struct Root {
+    pub node: NodeIndex,
+    pub odd: bool,
+}
+
+// Every node by itself.
+fn start(up: &mut [u16])
+    requires { ⌜ length (now up) ≤ 512 ⌝ }
+    ensures { λ _. ⌜ ((v : ℕ) → v < length (now (up .entry)) → getD (now (up .exit)) v 0 ≡ v) ⌝ }
+{
+    let mut v = 0;
+    while v < up.len() {
+        up[v] = v as u16;
+        v += 1;
+    }
+}
+
+// The root of a node's tree. On the way up each node passed is hung under the one above the next, with the side that it has to that one.
+fn root_of(up: &mut [u16], flips: &mut [bool], node: NodeIndex) -> Root
+    requires { ⌜ Forest (now up) (now flips) ⌝ }
+    requires { ⌜ node .0 < length (now up) ⌝ }
+    ensures { λ r. ⌜ Finds (now (up .entry)) (now (flips .entry)) (node .0) r (now (up .exit)) (now (flips .exit)) ⌝ }
+{
+    let mut x = node.0 as usize;
+    let mut odd = false;
+    loop {
+        let next = up[x] as usize;
+        let above = up[next];
+        if above as usize == next {
+            return Root { node: NodeIndex(above), odd: odd != flips[x] };
+        }
+        let flip = flips[x] != flips[next];
+        up[x] = above;
+        flips[x] = flip;
+        odd = odd != flip;
+        x = above as usize;
+    }
+}
+
+// Takes in one edge: of two roots the higher is hung under the lower. False where the ends are on the same side of one component.
+fn join(ends: &[u16], edge: EdgeIndex, up: &mut [u16], flips: &mut [bool]) -> bool
+    requires { ⌜ Passed (length (now up)) (now ends) ⌝ }
+    requires { ⌜ (edge .0 < edgeCount (now ends)) × (oddCycle (now ends) (edge .0) ≡ false) ⌝ }
+    requires { ⌜ Joined (now ends) (edge .0) (now up) (now flips) ⌝ }
+    ensures { λ r. ⌜ Taken (now (ends .entry)) (edge .0 + 1) (now (up .exit)) (now (flips .exit)) r ⌝ }
+{
+    let k = edge.0 as usize;
+    let first = root_of(up, flips, NodeIndex(ends[2 * k]));
+    let second = root_of(up, flips, NodeIndex(ends[2 * k + 1]));
+    let same = first.odd == second.odd;
+    let a = first.node.0 as usize;
+    let b = second.node.0 as usize;
+    if a == b {
+        return !same;
+    }
+    if a < b {
+        up[b] = first.node.0;
+        flips[b] = same;
+    } else {
+        up[a] = second.node.0;
+        flips[a] = same;
+    }
+    true
+}
+
+// Takes in all edges, up to the first that is inside one side.
+fn join_edges(ends: &[u16], up: &mut [u16], flips: &mut [bool]) -> bool
+    requires { ⌜ Passed (length (now up)) (now ends) ⌝ }
+    requires { ⌜ Joined (now ends) 0 (now up) (now flips) ⌝ }
+    ensures { λ r. ⌜ Taken (now (ends .entry)) (edgeCount (now (ends .entry))) (now (up .exit)) (now (flips .exit)) r ⌝ }
+{
+    let mut k = 0;
+    while k < ends.len() / 2 {
+        if !join(ends, EdgeIndex(k as u16), up, flips) {
+            return false;
+        }
+        k += 1;
+    }
+    true
+}
+
+// The other of 0 and 1.
+fn other(side: u16) -> u16
+    requires { ⌜ side ≤ 1 ⌝ }
+    ensures { λ r. ⌜ r ≡ 1 - side ⌝ }
+{
+    1 - side
+}
+
+// A root gets 1, each other node the colour of the one that it hangs under, or the other of it.
+fn write_sides(n: usize, up: &[u16], flips: &[bool], sides: &mut [u16])
+    requires { ⌜ Forest (now up) (now flips) ⌝ }
+    requires { ⌜ (n ≤ length (now up)) × (n ≤ length (now sides)) ⌝ }
+    ensures { λ _. ⌜ ((low : ℕ → ℕ) (odd : ℕ → Bool) → Holds low odd (now (up .entry)) (now (flips .entry)) → Sided odd n (now (sides .exit))) ⌝ }
+{
+    let mut v = 0;
+    while v < n {
+        let above = up[v] as usize;
+        if above == v {
+            sides[v] = 1;
+        } else if flips[v] {
+            sides[v] = other(sides[above]);
+        } else {
+            sides[v] = sides[above];
+        }
+        v += 1;
+    }
+}
+
+// Where the answer is true the first n colours are those of `sides`; where it is false an odd closed walk exists.
+pub(crate) fn color_nodes(n: usize, ends: &[u16], up: &mut [u16], flips: &mut [bool], colors: &mut [u16]) -> bool
+    requires { ⌜ Passed n (now ends) ⌝ }
+    requires { ⌜ (length (now up) ≡ 512) × (now flips ≡ replicate 512 false) × (length (now colors) ≡ 512) ⌝ }
+    ensures { λ r. ⌜ (r ≡ true → (oddCycle (now (ends .entry)) (edgeCount (now (ends .entry))) ≡ false) × (take n (now (colors .exit)) ≡ sides (now (ends .entry)) (edgeCount (now (ends .entry))) n))
+        × (r ≡ false → oddCycle (now (ends .entry)) (edgeCount (now (ends .entry))) ≡ true) ⌝ }
+{
+    start(up);
+    if !join_edges(ends, up, flips) {
+        return false;
+    }
+    write_sides(n, up, flips, colors);
+    true
+}
