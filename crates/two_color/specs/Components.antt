@@ -153,6 +153,10 @@ pub record Taken (ends : List ℕ) (k : ℕ) (up : List ℕ) (flips : List Bool)
   pub answer : r ≡ not (oddCycle ends k)
   pub joined : r ≡ true → Joined ends k up flips
 
+-- Taking in edge k, whose ends are `first` and `second`, whichever list of ends and edge that is.
+pub record Joins (up : List ℕ) (flips : List Bool) (first second : ℕ) (up′ : List ℕ) (flips′ : List Bool) (r : Bool) : Type 0 where
+  pub taken : (ends : List ℕ) (k : ℕ) → first ≡ firstEnd ends k → second ≡ secondEnd ends k → Joined ends k up flips → oddCycle ends k ≡ false → Taken ends (k + 1) up′ flips′ r
+
 -- Of two different nodes the higher gives way, in whichever order they come.
 second-gives : (lo hi r : ℕ) → lo < hi → givesWay lo hi r ≡ eqb r hi
 unfolding givesWay lower
@@ -252,21 +256,45 @@ module _ (ends : List ℕ) (k : ℕ) where
 
     -- ---- as the code finds the roots of the two ends
 
-    module _ (first second : Root) (a : Found (lowest ends k) (oddSide ends k) (firstEnd ends k) first) (b : Found (lowest ends k) (oddSide ends k) (secondEnd ends k) second) where
-      pub join-inside : first .node .0 ≡ second .node .0 → Taken ends (k + 1) up flips (not (Bool·beq (first .odd) (second .odd)))
-      join-inside e = rw (a .side, b .side) (edge-inside (sym (a .node) ∙ (e ∙ b .node)))
+    module _ (a b : Root) (first : Found (lowest ends k) (oddSide ends k) (firstEnd ends k) a) (second : Found (lowest ends k) (oddSide ends k) (secondEnd ends k) b) where
+      roots-meet : a .node .0 ≡ b .node .0 → Taken ends (k + 1) up flips (not (Bool·beq (a .odd) (b .odd)))
+      roots-meet e = rw (first .side, second .side) (edge-inside (sym (first .node) ∙ (e ∙ second .node)))
 
-      pub join-second : first .node .0 < second .node .0 → second .node .0 < length up →
-          Taken ends (k + 1) (set up (second .node .0) (first .node .0)) (set flips (second .node .0) (Bool·beq (first .odd) (second .odd))) true
-      join-second h i = rw (a .side, b .side) (taken-apart (first .node .0) (second .node .0) h
-          (λ r. rw (← a .node, ← b .node) (second-gives (first .node .0) (second .node .0) r h)) (rw (← a .node, ← b .node) (second-lower (first .node .0) (second .node .0) h))
-          (λ e. omega (arith, a .node, b .node)) (a .own) (b .own) i)
+      hung-second : a .node .0 < b .node .0 → b .node .0 < length up → Taken ends (k + 1) (set up (b .node .0) (a .node .0)) (set flips (b .node .0) (Bool·beq (a .odd) (b .odd))) true
+      hung-second h i = rw (first .side, second .side) (taken-apart (a .node .0) (b .node .0) h
+          (λ r. rw (← first .node, ← second .node) (second-gives (a .node .0) (b .node .0) r h)) (rw (← first .node, ← second .node) (second-lower (a .node .0) (b .node .0) h))
+          (λ e. omega (arith, first .node, second .node)) (first .own) (second .own) i)
 
-      pub join-first : second .node .0 < first .node .0 → first .node .0 < length up →
-          Taken ends (k + 1) (set up (first .node .0) (second .node .0)) (set flips (first .node .0) (Bool·beq (first .odd) (second .odd))) true
-      join-first h i = rw (a .side, b .side) (taken-apart (second .node .0) (first .node .0) h
-          (λ r. rw (← a .node, ← b .node) (first-gives (second .node .0) (first .node .0) r h)) (rw (← a .node, ← b .node) (first-lower (second .node .0) (first .node .0) h))
-          (λ e. omega (arith, a .node, b .node)) (b .own) (a .own) i)
+      hung-first : b .node .0 < a .node .0 → a .node .0 < length up → Taken ends (k + 1) (set up (a .node .0) (b .node .0)) (set flips (a .node .0) (Bool·beq (a .odd) (b .odd))) true
+      hung-first h i = rw (first .side, second .side) (taken-apart (b .node .0) (a .node .0) h
+          (λ r. rw (← first .node, ← second .node) (first-gives (b .node .0) (a .node .0) r h)) (rw (← first .node, ← second .node) (first-lower (b .node .0) (a .node .0) h))
+          (λ e. omega (arith, first .node, second .node)) (second .own) (first .own) i)
+
+-- Both roots are found one after the other.
+module _ (up₀ : List ℕ) (flips₀ : List Bool) (first second : ℕ) (a b : Root) (up₁ : List ℕ) (flips₁ : List Bool) (up : List ℕ) (flips : List Bool)
+    (finds : Finds up₀ flips₀ first a up₁ flips₁) (finds′ : Finds up₁ flips₁ second b up flips) where
+  both : (ends : List ℕ) (k : ℕ) → first ≡ firstEnd ends k → second ≡ secondEnd ends k → Joined ends k up₀ flips₀ →
+      Joined ends k up flips × Found (lowest ends k) (oddSide ends k) (firstEnd ends k) a × Found (lowest ends k) (oddSide ends k) (secondEnd ends k) b
+  both ends k p q joined =
+      let f = finds .right (lowest ends k) (oddSide ends k) joined in
+      let g = finds′ .right (lowest ends k) (oddSide ends k) (f .1) in
+      (g .1, rw p at (f .0), rw q at (g .0))
+
+  pub join-inside : a .node .0 ≡ b .node .0 → Joins up₀ flips₀ first second up flips (not (Bool·beq (a .odd) (b .odd)))
+  join-inside e = record { taken = λ ends k p q joined fine. let r = both ends k p q joined in roots-meet ends k up flips (r .0) fine a b (r .1) (r .2) e }
+
+  module _ (size : length up ≡ length up₁) (low high : ℕ)
+      (order : ((b .node .0 < a .node .0) × (low ≡ b .node .0) × (high ≡ a .node .0)) ⊎ ((a .node .0 ≤ b .node .0) × (low ≡ a .node .0) × (high ≡ b .node .0))) where
+    pub join-room : high < length up
+    join-room = elim order [ inl (h, l, t) ↦ omega (arith, finds .inside) | inr (h, l, t) ↦ omega (arith, finds′ .inside) ]
+
+    pub join-apart : (a .node .0 ≡ b .node .0 → ⊥) → Joins up₀ flips₀ first second (set up high low) (set flips high (Bool·beq (a .odd) (b .odd))) true
+    join-apart n = elim order [
+      | inl (h, l, t) ↦ rw (l, t) (record { taken = λ ends k p q joined fine.
+          let r = both ends k p q joined in hung-first ends k up flips (r .0) fine a b (r .1) (r .2) h (omega (arith, finds .inside)) })
+      | inr (h, l, t) ↦ rw (l, t) (record { taken = λ ends k p q joined fine.
+          let r = both ends k p q joined in hung-second ends k up flips (r .0) fine a b (r .1) (r .2) (omega arith) (finds′ .inside) })
+    ]
 
 -- ---- all edges
 

@@ -6,8 +6,7 @@ ghost use lib.ListN.{length, getD, take, replicate};
 ghost use Rattle.graph.specs.CheckLaws.{Passed};
 ghost use Rattle.graph.specs.Edges.{edgeCount};
 ghost use Rattle.two_color.specs.Sides.{oddCycle, sides};
-ghost use Rattle.two_color.specs.Components.{Forest, Holds, Joined, Finds, Taken, Sided};
-use graph::EdgeIndex;
+ghost use Rattle.two_color.specs.Components.{Forest, Holds, Joined, Finds, Joins, Taken, Sided};
 use graph::NodeIndex;
 
 // The lowest node of a component, and whether the node that it was asked for is on the odd side.
@@ -50,29 +49,26 @@ fn root_of(up: &mut [u16], flips: &mut [bool], node: NodeIndex) -> Root
     }
 }
 
-// Takes in one edge: of two roots the higher is hung under the lower. False where the ends are on the same side of one component.
-fn join(ends: &[u16], edge: EdgeIndex, up: &mut [u16], flips: &mut [bool]) -> bool
-    requires { ⌜ Passed (length (now up)) (now ends) ⌝ }
-    requires { ⌜ (edge .0 < edgeCount (now ends)) × (oddCycle (now ends) (edge .0) ≡ false) ⌝ }
-    requires { ⌜ Joined (now ends) (edge .0) (now up) (now flips) ⌝ }
-    ensures { λ r. ⌜ Taken (now (ends .entry)) (edge .0 + 1) (now (up .exit)) (now (flips .exit)) r ⌝ }
+// Takes in an edge with these ends: of two roots the higher is hung under the lower. False where the ends are on the same side of one component.
+fn join(up: &mut [u16], flips: &mut [bool], first: NodeIndex, second: NodeIndex) -> bool
+    requires { ⌜ Forest (now up) (now flips) ⌝ }
+    requires { ⌜ (first .0 < length (now up)) × (second .0 < length (now up)) ⌝ }
+    ensures { λ r. ⌜ Joins (now (up .entry)) (now (flips .entry)) (first .0) (second .0) (now (up .exit)) (now (flips .exit)) r ⌝ }
 {
-    let k = edge.0 as usize;
-    let first = root_of(up, flips, NodeIndex(ends[2 * k]));
-    let second = root_of(up, flips, NodeIndex(ends[2 * k + 1]));
-    let same = first.odd == second.odd;
-    let a = first.node.0 as usize;
-    let b = second.node.0 as usize;
-    if a == b {
+    let a = root_of(up, flips, first);
+    let b = root_of(up, flips, second);
+    let same = a.odd == b.odd;
+    let mut low = a.node.0;
+    let mut high = b.node.0;
+    if low == high {
         return !same;
     }
-    if a < b {
-        up[b] = first.node.0;
-        flips[b] = same;
-    } else {
-        up[a] = second.node.0;
-        flips[a] = same;
+    if high < low {
+        low = b.node.0;
+        high = a.node.0;
     }
+    up[high as usize] = low;
+    flips[high as usize] = same;
     true
 }
 
@@ -84,7 +80,7 @@ fn join_edges(ends: &[u16], up: &mut [u16], flips: &mut [bool]) -> bool
 {
     let mut k = 0;
     while k < ends.len() / 2 {
-        if !join(ends, EdgeIndex(k as u16), up, flips) {
+        if !join(up, flips, NodeIndex(ends[2 * k]), NodeIndex(ends[2 * k + 1])) {
             return false;
         }
         k += 1;

@@ -6,7 +6,8 @@ use native.Mathlib.Omega.{arith}
 use lib.ListN.{length}
 use borrow.Author.Needs.{needs}
 use borrow.Author.Tests.{not-true, not-false}
-use Rattle.graph.specs.Edges.{edgeCount}
+use Rattle.graph.specs.CheckLaws.{passed-inside}
+use Rattle.graph.specs.Edges.{edgeCount, firstEnd, secondEnd}
 use Rattle.two_color.specs.Sides.{oddCycle}
 use Rattle.two_color.specs.Components.{Joined, taken-fine, taken-early, taken-all}
 use Rattle.two_color.proofs.components.join_edges.Statement.{statement}
@@ -23,16 +24,21 @@ unfolding oddCycle
 loop-holds c = (omega arith, refl, c .before .before .before .pre .1, refl, refl)
 
 join-requires : tie.Need-join-requires Inv-loop μ-loop
-join-requires c κs = let i = c .before .before .before .loop .inv in (rw (i .3) (c .before .before .before .before .before .before .before .pre .0), ((c .before .before .loop-test .taken, i .1), i .2))
+unfolding firstEnd secondEnd
+join-requires c κs = let i = c .before .before .before .before .before .loop .inv in (i .2 .forest, rw (i .3) (passed-inside _ _ (c .before .before .before .before .before .before .before .before .before .pre .0) _ (c .before .before .before .before .loop-test .taken)))
 
 returns : tie.Need-returns Inv-loop μ-loop
-returns c = taken-early _ _ _ _ _ (c .before .before .before .before .before .join .ensures) _ (omega arith) (not-true _ (c .if1 .taken))
+unfolding firstEnd secondEnd
+returns c =
+    let i = c .before .before .before .before .before .before .before .before .before .before .before .loop .inv in
+    taken-early _ _ _ _ _ (c .before .before .before .before .before .join .ensures .taken _ _ refl refl (i .2) (i .1)) _ (omega arith) (not-true _ (c .if1 .taken))
 
 loop-again : tie.Need-loop-again Inv-loop μ-loop
+unfolding firstEnd secondEnd
 loop-again c =
-    let i = c .before .before .before .before .before .before .before .before .before .loop .inv in
-    let t = taken-fine _ _ _ _ _ (c .before .before .before .before .before .join .ensures) (not-false _ (c .if1 .left)) in
-    (omega arith, t .0, t .1, c .before .before .before .before .before .join .kept .1 .1 .0 ∙ i .3, c .before .before .before .before .before .join .kept .1 .1 .1 .0 ∙ i .4)
+    let i = c .before .before .before .before .before .before .before .before .before .before .before .loop .inv in
+    let t = taken-fine _ _ _ _ _ (c .before .before .before .before .before .join .ensures .taken _ _ refl refl (i .2) (i .1)) (not-false _ (c .if1 .left)) in
+    (omega arith, t .0, t .1, c .before .before .before .before .before .join .kept .0 ∙ i .3, c .before .before .before .before .before .join .kept .1 .0 ∙ i .4)
 
 returns-2 : tie.Need-returns-2 Inv-loop μ-loop
 returns-2 c = let i = c .before .loop .inv in taken-all _ _ _ _ _ (omega arith) (i .1) (i .2)
@@ -44,7 +50,7 @@ join-edges-spec =
     Inv-loop
     μ-loop
     loop-holds
-    (λ c. search needs)
+    (λ c. search needs) (λ c. search needs) (λ c. omega (arith, c .before .before .before .before .before .before .before .before .pre .0 .even)) (λ c. search needs) (λ c. search needs) (λ c. search needs) (λ c. omega (arith, c .before .before .before .before .before .before .before .before .before .pre .0 .even))
     join-requires
     (λ c. search needs) (λ c. search needs)
     returns
