@@ -3,7 +3,6 @@ use mathlib.Core.Path.{_∙_}
 use mathlib.Core.Logic.{⊎-elim, inl, inr}
 use native.Mathlib.Omega.{arith}
 use lib.ListN.{length-set}
-use borrow.Author.Needs.{needs}
 use Rattle.two_color.specs.Components.{join-inside, join-room, join-apart}
 use Rattle.two_color.proofs.components.join.Statement.{statement}
 use Rattle.two_color.proofs.components.join.Tie as tie
@@ -50,7 +49,7 @@ join-spec =
     same-length
     same-length-2
     returns
-    (λ c. search needs)
+    (λ c. omega arith)
     slice-write-up
     slice-write-flips
     same-length-3

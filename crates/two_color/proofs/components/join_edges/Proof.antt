@@ -4,7 +4,6 @@ use mathlib.Core.Path.{_≡_, refl, _∙_}
 use mathlib.Core.Bool.{false}
 use native.Mathlib.Omega.{arith}
 use lib.ListN.{length}
-use borrow.Author.Needs.{needs}
 use borrow.Author.Tests.{not-true, not-false}
 use Rattle.graph.specs.CheckLaws.{passed-inside}
 use Rattle.graph.specs.Edges.{edgeCount, firstEnd, secondEnd}
@@ -50,11 +49,11 @@ join-edges-spec =
     Inv-loop
     μ-loop
     loop-holds
-    (λ c. search needs) (λ c. search needs) (λ c. omega (arith, c .before .before .before .before .before .before .before .before .pre .0 .even)) (λ c. search needs) (λ c. search needs) (λ c. search needs) (λ c. omega (arith, c .before .before .before .before .before .before .before .before .before .pre .0 .even))
+    (λ c. omega arith) (λ c. omega arith) (λ c. omega (arith, c .before .before .before .before .before .before .before .before .pre .0 .even)) (λ c. omega arith) (λ c. omega arith) (λ c. omega arith) (λ c. omega (arith, c .before .before .before .before .before .before .before .before .before .pre .0 .even))
     join-requires
-    (λ c. search needs) (λ c. search needs)
+    (λ c. c .before .before .before .before .before .join .kept .0 ∙ c .before .before .before .before .before .before .before .before .before .before .before .loop .inv .3) (λ c. c .before .before .before .before .before .join .kept .1 .0 ∙ c .before .before .before .before .before .before .before .before .before .before .before .loop .inv .4)
     returns
-    (λ c. search needs) (λ c. search needs)
+    (λ c. omega arith) (λ c. omega arith)
     loop-again
-    (λ c. search needs) (λ c. search needs)
+    (λ c. c .before .loop .inv .3) (λ c. c .before .loop .inv .4)
     returns-2)

@@ -2,7 +2,6 @@
 use Prim.Native.Nat.{_-_}
 use mathlib.Core.Logic.{⊎-elim}
 use native.Mathlib.Omega.{arith}
-use borrow.Author.Needs.{needs}
 use Rattle.two_color.specs.Components.{Colored, colored-none, colored-root, above-colored, above-two, colored-same, colored-other}
 use Rattle.two_color.proofs.components.write_sides.Statement.{statement}
 use Rattle.two_color.proofs.components.write_sides.Tie as tie
@@ -53,16 +52,16 @@ write-sides-spec =
     Inv-loop
     μ-loop
     loop-holds
-    (λ c. search needs) (λ c. search needs)
+    (λ c. omega arith) (λ c. omega arith)
     cast-above
-    (λ c. search needs) (λ c. search needs) (λ c. search needs)
+    (λ c. omega arith) (λ c. omega arith) (λ c. omega (arith, c .before .before .before .before .loop .inv .forest .size))
     mul-other
     slice-read-other
     other-requires
-    (λ c. search needs) (λ c. search needs)
+    (λ c. omega arith) (λ c. omega arith)
     mul-sides-3
     slice-read-sides
-    (λ c. search needs) (λ c. search needs) (λ c. search needs) (λ c. search needs)
+    (λ c. omega arith) (λ c. omega arith) (λ c. omega arith) (λ c. omega arith)
     loop-again
-    (λ c. search needs)
+    (λ c. c .before .loop .inv .size)
     returns)
