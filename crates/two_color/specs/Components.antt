@@ -353,10 +353,12 @@ pub colored-none : (n : ℕ) (up : List ℕ) (flips : List Bool) (colors : List 
 colored-none n up flips colors forest room =
     record { forest = forest; room = room; size = refl; bound = omega arith; two = λ u h. absurd (not-suc-le-zero h); right = λ low odd holds u h. absurd (not-suc-le-zero h) }
 
-other-side : (b : Bool) → 1 - cond b 0 1 ≡ cond (xor true b) 0 1
+hung-side : (flip odd : Bool) → cond flip (1 - cond odd 0 1) (cond odd 0 1) ≡ cond (xor flip odd) 0 1
 unfolding xor
-other-side true = refl
-other-side false = refl
+hung-side true true = refl
+hung-side true false = refl
+hung-side false true = refl
+hung-side false false = refl
 
 module _ (n : ℕ) (up : List ℕ) (flips : List Bool) (colors₀ : List ℕ) (colors : List ℕ) (v : ℕ) (colored : Colored n up flips colors₀ colors v) (more : v < n) where
   inside : v < length up
@@ -391,13 +393,10 @@ module _ (n : ℕ) (up : List ℕ) (flips : List Bool) (colors₀ : List ℕ) (c
     pub above-two : getD colors (getD up v 0) 0 ≤ 1
     above-two = colored .two (getD up v 0) above-before
 
-    pub colored-same : (colors′ : List ℕ) → getD flips v false ≡ false → colors′ ≡ set colors v (getD colors (getD up v 0) 0) → Colored n up flips colors₀ colors′ (v + 1)
-    colored-same colors′ e q = colored-more (getD colors (getD up v 0) 0) colors′ q above-two (λ low odd holds.
-        colored .right low odd holds (getD up v 0) above-before ∙ simp (holds .hangs v inside .side, e, false-xor))
-
-    pub colored-other : (c : ℕ) (colors′ : List ℕ) → getD flips v false ≡ true → c ≡ 1 - getD colors (getD up v 0) 0 → colors′ ≡ set colors v c → Colored n up flips colors₀ colors′ (v + 1)
-    colored-other c colors′ e p q = colored-more c colors′ q (omega arith) (λ low odd holds.
-        p ∙ rw (colored .right low odd holds (getD up v 0) above-before, holds .hangs v inside .side, e) (other-side (odd (getD up v 0))))
+    pub colored-hung : (c : ℕ) (colors′ : List ℕ) → c ≡ cond (getD flips v false) (1 - getD colors (getD up v 0) 0) (getD colors (getD up v 0) 0) → colors′ ≡ set colors v c → Colored n up flips colors₀ colors′ (v + 1)
+    colored-hung c colors′ p q = colored-more c colors′ q
+        (rw p (by-test (getD flips v false) (λ t. simp t (omega arith)) (λ t. simp t above-two)))
+        (λ low odd holds. p ∙ rw (colored .right low odd holds (getD up v 0) above-before, holds .hangs v inside .side) (hung-side (getD flips v false) (odd (getD up v 0))))
 
 pub colored-all : (ends : List ℕ) (m n : ℕ) (colors : List ℕ) → Sided (oddSide ends m) n colors → n ≤ length colors → take n colors ≡ sides ends m n
 unfolding sideColor

@@ -1,6 +1,6 @@
 // Components and sides, one edge after the other: disjoint sets, as trees in which each node hangs under a lower one.
 ghost use mathlib.Core.Path.{_≡_};
-ghost use mathlib.Core.Bool.{Bool, true, false};
+ghost use mathlib.Core.Bool.{Bool, true, false, cond};
 ghost use Prim.Native.Nat.{ℕ, suc, _+_, _-_, _≤_, _<_};
 ghost use lib.ListN.{length, getD, take, replicate};
 ghost use Rattle.graph.specs.CheckLaws.{Passed};
@@ -38,10 +38,11 @@ fn root_of(up: &mut [u16], flips: &mut [bool], node: NodeIndex) -> Root
     loop {
         let next = up[x] as usize;
         let above = up[next];
+        let mut flip = flips[x];
         if above as usize == next {
-            return Root { node: NodeIndex(above), odd: odd != flips[x] };
+            return Root { node: NodeIndex(above), odd: odd != flip };
         }
-        let flip = flips[x] != flips[next];
+        flip = flip != flips[next];
         up[x] = above;
         flips[x] = flip;
         odd = odd != flip;
@@ -80,7 +81,9 @@ fn join_edges(ends: &[u16], up: &mut [u16], flips: &mut [bool]) -> bool
 {
     let mut k = 0;
     while k < ends.len() / 2 {
-        if !join(up, flips, NodeIndex(ends[2 * k]), NodeIndex(ends[2 * k + 1])) {
+        let first = NodeIndex(ends[2 * k]);
+        let second = NodeIndex(ends[2 * k + 1]);
+        if !join(up, flips, first, second) {
             return false;
         }
         k += 1;
@@ -88,15 +91,18 @@ fn join_edges(ends: &[u16], up: &mut [u16], flips: &mut [bool]) -> bool
     true
 }
 
-// The other of 0 and 1.
-fn other(side: u16) -> u16
-    requires { ⌜ side ≤ 1 ⌝ }
-    ensures { λ r. ⌜ r ≡ 1 - side ⌝ }
+// The colour of a node that hangs under one of this colour: the other of 0 and 1 where it flips.
+fn color_under(color: u16, flip: bool) -> u16
+    requires { ⌜ color ≤ 1 ⌝ }
+    ensures { λ r. ⌜ r ≡ cond flip (1 - color) color ⌝ }
 {
-    1 - side
+    if flip {
+        return 1 - color;
+    }
+    color
 }
 
-// A root gets 1, each other node the colour of the one that it hangs under, or the other of it.
+// A root gets 1, each other node its colour from the one that it hangs under.
 fn write_sides(n: usize, up: &[u16], flips: &[bool], sides: &mut [u16])
     requires { ⌜ Forest (now up) (now flips) ⌝ }
     requires { ⌜ (n ≤ length (now up)) × (n ≤ length (now sides)) ⌝ }
@@ -107,10 +113,8 @@ fn write_sides(n: usize, up: &[u16], flips: &[bool], sides: &mut [u16])
         let above = up[v] as usize;
         if above == v {
             sides[v] = 1;
-        } else if flips[v] {
-            sides[v] = other(sides[above]);
         } else {
-            sides[v] = sides[above];
+            sides[v] = color_under(sides[above], flips[v]);
         }
         v += 1;
     }

@@ -49,7 +49,7 @@ join-edges-spec =
     Inv-loop
     μ-loop
     loop-holds
-    (λ c. omega arith) (λ c. omega arith) (λ c. omega (arith, c .before .before .before .before .before .before .before .before .pre .0 .even)) (λ c. omega arith) (λ c. omega arith) (λ c. omega arith) (λ c. omega (arith, c .before .before .before .before .before .before .before .before .before .pre .0 .even))
+    (λ c. omega arith) (λ c. omega arith) (λ c. omega (arith, c .before .before .before .before .before .before .pre .0 .even)) (λ c. omega arith) (λ c. omega arith) (λ c. omega arith) (λ c. omega (arith, c .before .before .before .before .before .before .before .pre .0 .even))
     join-requires
     (λ c. c .before .before .before .before .before .join .kept .0 ∙ c .before .before .before .before .before .before .before .before .before .before .before .loop .inv .3) (λ c. c .before .before .before .before .before .join .kept .1 .0 ∙ c .before .before .before .before .before .before .before .before .before .before .before .loop .inv .4)
     returns

@@ -3,7 +3,6 @@ use mathlib.Core.Path.{_≡_, refl}
 use mathlib.Core.Bool.{xor}
 use native.Mathlib.Omega.{arith}
 use lib.ListN.{length, getD, length-set}
-use borrow.Author.Needs.{needs}
 use Rattle.two_color.specs.Components.{Climbs, climb-none, next-inside, above-lower, climb-more, climb-done}
 use Rattle.two_color.proofs.components.root_of.Statement.{statement}
 use Rattle.two_color.proofs.components.root_of.Tie as tie
@@ -26,25 +25,31 @@ mul-above c = omega (arith, c .slice-known .given (c .before .loop .x))
 slice-read-above : tie.Need-slice-read-above Inv-loop μ-loop
 slice-read-above c = next-inside _ _ _ _ _ _ _ (c .before .before .loop .inv .0)
 
+slice-read-flip : tie.Need-slice-read-flip Inv-loop μ-loop
+slice-read-flip c = let i = c .before .before .before .loop .inv .0 in omega (arith, i .inside, i .forest .size)
+
 cast-if1 : tie.Need-cast-if1 Inv-loop μ-loop
-cast-if1 c = omega (arith, c .slice-known2 .given (getD (c .before .before .loop .up) (c .before .before .loop .x) 0))
+cast-if1 c = omega (arith, c .before .slice-known2 .given (getD (c .before .before .before .loop .up) (c .before .before .before .loop .x) 0))
 
 returns : tie.Need-returns Inv-loop μ-loop
 unfolding xor
-returns c = climb-done _ _ _ _ _ _ _ (c .before .before .before .before .loop .inv .0) _ (c .before .if1 .taken) refl refl
+returns c = climb-done _ _ _ _ _ _ _ (c .before .before .before .before .loop .inv .0) _ (c .if1 .taken) refl refl
 
 slice-read-flip-2 : tie.Need-slice-read-flip-2 Inv-loop μ-loop
 slice-read-flip-2 c = omega (arith, next-inside _ _ _ _ _ _ _ (c .before .before .before .before .before .loop .inv .0), c .before .before .before .before .before .loop .inv .0 .forest .size)
+
+slice-write-flips : tie.Need-slice-write-flips Inv-loop μ-loop
+slice-write-flips c = let i = c .before .before .before .before .before .loop .inv .0 in omega (arith, i .inside, i .forest .size)
 
 cast-x-2 : tie.Need-cast-x-2 Inv-loop μ-loop
 cast-x-2 c = omega (arith, c .before .before .before .slice-known2 .given (getD (c .before .before .before .before .before .loop .up) (c .before .before .before .before .before .loop .x) 0))
 
 loop-less : tie.Need-loop-less Inv-loop μ-loop
-loop-less c = above-lower _ _ _ _ _ _ _ (c .before .before .before .before .before .loop .inv .0) (c .before .before .if1 .left)
+loop-less c = above-lower _ _ _ _ _ _ _ (c .before .before .before .before .before .loop .inv .0) (c .before .if1 .left)
 
 loop-again : tie.Need-loop-again Inv-loop μ-loop
 unfolding xor
-loop-again c = (climb-more _ _ _ _ _ _ _ (c .before .before .before .before .before .loop .inv .0) (c .before .before .if1 .left), simp length-set (c .before .before .before .before .before .loop .inv .1))
+loop-again c = (climb-more _ _ _ _ _ _ _ (c .before .before .before .before .before .loop .inv .0) (c .before .if1 .left), simp length-set (c .before .before .before .before .before .loop .inv .1))
 
 pub root-of-spec : {M : Type 1} → statement M
 root-of-spec =
@@ -52,18 +57,19 @@ root-of-spec =
     (tie.spec
     Inv-loop
     μ-loop
-    (λ c. search needs)
+    (λ c. omega arith)
     loop-holds
-    (λ c. search needs) (λ c. search needs)
+    (λ c. omega arith) (λ c. c .before .loop .inv .0 .inside)
     cast-next
     mul-above
     slice-read-above
+    slice-read-flip
     cast-if1
-    (λ c. search needs) (λ c. search needs) (λ c. search needs)
+    (λ c. c .before .before .before .before .loop .inv .0 .size) (λ c. c .before .before .before .before .loop .inv .1)
     returns
-    (λ c. search needs)
     slice-read-flip-2
-    (λ c. search needs) (λ c. search needs) (λ c. search needs)
+    (λ c. omega arith) (λ c. c .before .before .before .before .before .loop .inv .0 .inside)
+    slice-write-flips
     cast-x-2
     loop-less
     loop-again)

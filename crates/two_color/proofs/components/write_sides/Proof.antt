@@ -2,7 +2,7 @@
 use Prim.Native.Nat.{_-_}
 use mathlib.Core.Logic.{⊎-elim}
 use native.Mathlib.Omega.{arith}
-use Rattle.two_color.specs.Components.{Colored, colored-none, colored-root, above-colored, above-two, colored-same, colored-other}
+use Rattle.two_color.specs.Components.{Colored, colored-none, colored-root, above-colored, above-two, colored-hung}
 use Rattle.two_color.proofs.components.write_sides.Statement.{statement}
 use Rattle.two_color.proofs.components.write_sides.Tie as tie
 
@@ -18,29 +18,20 @@ loop-holds c = colored-none _ _ _ _ (c .before .before .before .pre .0) (c .befo
 cast-above : tie.Need-cast-above Inv-loop μ-loop
 cast-above c = omega (arith, c .shared-slice-known3 .given (c .before .before .loop .v))
 
-mul-other : tie.Need-mul-other Inv-loop μ-loop
-mul-other c = omega (arith, c .before .before .before .shared-slice-known3 .given (c .before .before .before .before .before .loop .v))
+mul-color-under : tie.Need-mul-color-under Inv-loop μ-loop
+mul-color-under c = omega (arith, c .before .shared-slice-known3 .given (c .before .before .before .loop .v))
 
-slice-read-other : tie.Need-slice-read-other Inv-loop μ-loop
-slice-read-other c = above-colored _ _ _ _ _ _ (c .before .before .before .before .before .before .loop .inv) (c .before .before .before .before .before .loop-test .taken) (c .before .before .before .if1 .left)
+slice-read-color-under : tie.Need-slice-read-color-under Inv-loop μ-loop
+slice-read-color-under c = above-colored _ _ _ _ _ _ (c .before .before .before .before .loop .inv) (c .before .before .before .loop-test .taken) (c .before .if1 .left)
 
-other-requires : tie.Need-other-requires Inv-loop μ-loop
-other-requires c κs = above-two _ _ _ _ _ _ (c .before .before .before .before .before .before .loop .inv) (c .before .before .before .before .before .loop-test .taken) (c .before .before .before .if1 .left)
-
-mul-sides-3 : tie.Need-mul-sides-3 Inv-loop μ-loop
-mul-sides-3 c = omega (arith, c .before .before .before .shared-slice-known3 .given (c .before .before .before .before .before .loop .v))
-
-slice-read-sides : tie.Need-slice-read-sides Inv-loop μ-loop
-slice-read-sides c = above-colored _ _ _ _ _ _ (c .before .before .before .before .before .before .loop .inv) (c .before .before .before .before .before .loop-test .taken) (c .before .before .before .if1 .left)
+color-under-requires : tie.Need-color-under-requires Inv-loop μ-loop
+color-under-requires c κs = above-two _ _ _ _ _ _ (c .before .before .before .before .before .loop .inv) (c .before .before .before .before .loop-test .taken) (c .before .before .if1 .left)
 
 loop-again : tie.Need-loop-again Inv-loop μ-loop
 loop-again c =
     let i = c .before .before .before .loop .inv in
     let h = c .before .before .loop-test .taken in
-    ⊎-elim (λ w. colored-root _ _ _ _ _ _ i h _ (w .0 .taken) (w .1)) (⊎-elim
-    (λ w. colored-other _ _ _ _ _ _ i h (w .0 .left) _ _ (w .2 .taken) (w .4 .ensures) (w .5))
-    (λ w. colored-same _ _ _ _ _ _ i h (w .0 .left) _ (w .2 .left) (w .4)))
-    (c .if1 .came)
+    ⊎-elim (λ w. colored-root _ _ _ _ _ _ i h _ (w .0 .taken) (w .1)) (λ w. colored-hung _ _ _ _ _ _ i h (w .0 .left) _ _ (w .3 .ensures) (w .4)) (c .if1 .came)
 
 returns : tie.Need-returns Inv-loop μ-loop
 returns c = λ low odd holds v h. c .before .loop .inv .right low odd holds v (omega arith)
@@ -54,13 +45,11 @@ write-sides-spec =
     loop-holds
     (λ c. omega arith) (λ c. omega arith)
     cast-above
-    (λ c. omega arith) (λ c. omega arith) (λ c. omega (arith, c .before .before .before .before .loop .inv .forest .size))
-    mul-other
-    slice-read-other
-    other-requires
     (λ c. omega arith) (λ c. omega arith)
-    mul-sides-3
-    slice-read-sides
+    mul-color-under
+    slice-read-color-under
+    (λ c. omega (arith, c .before .before .before .before .before .loop .inv .forest .size))
+    color-under-requires
     (λ c. omega arith) (λ c. omega arith) (λ c. omega arith) (λ c. omega arith)
     loop-again
     (λ c. c .before .loop .inv .size)
