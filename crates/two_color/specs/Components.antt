@@ -124,10 +124,11 @@ module _ (up₀ : List ℕ) (flips₀ : List Bool) (v : ℕ) (up : List ℕ) (fl
             let r = climbs .right low side holds in
             let h = r .0 .hangs x (climbs .inside) in
             let g = r .0 .hangs next next-inside in
-            let s : side x ≡ xor flip (side above) = h .side ∙ (ap (xor (getD flips x false)) (g .side) ∙ xor-assoc (getD flips x false) (getD flips next false) (side above)) in
-            (hung-holds up flips (climbs .forest) x (climbs .inside) above flip (omega arith) low side (λ u b e. r .0 .hangs u b) (record { together = g .together ∙ h .together; side = s; root = λ p. absurd (omega arith) }),
-            g .together ∙ (h .together ∙ r .1),
-            r .2 ∙ (ap (xor odd) s ∙ xor-assoc odd flip (side above)));
+            let s : side x ≡ xor flip (side above) = h .side ∙ (ap (xor (getD flips x false)) (g .side) ∙ xor-assoc (getD flips x false) (getD flips next false) (side above)) in (
+              hung-holds up flips (climbs .forest) x (climbs .inside) above flip (omega arith) low side (λ u b e. r .0 .hangs u b) (record { together = g .together ∙ h .together; side = s; root = λ p. absurd (omega arith) }),
+              g .together ∙ (h .together ∙ r .1),
+              r .2 ∙ (ap (xor odd) s ∙ xor-assoc odd flip (side above)),
+            );
       }
 
   pub climb-done : (r : Root) → above ≡ next → r .node .0 ≡ above → r .odd ≡ xor odd (getD flips x false) → Finds up₀ flips₀ v r up flips
@@ -138,12 +139,14 @@ module _ (up₀ : List ℕ) (flips₀ : List Bool) (v : ℕ) (up : List ℕ) (fl
         let c = climbs .right low side holds in
         let h = c .0 .hangs x (climbs .inside) in
         let own = c .0 .hangs next next-inside .root e in
-        let n = p ∙ e in
-        (record {
-          node = n ∙ (sym (own .0) ∙ (h .together ∙ c .1));
-          side = q ∙ sym (c .2 ∙ ap (xor odd) (h .side ∙ (ap (xor (getD flips x false)) (own .1) ∙ xor-false (getD flips x false))));
-          own = rw n own;
-        }, c .0);
+        let n = p ∙ e in (
+          record {
+            node = n ∙ (sym (own .0) ∙ (h .together ∙ c .1));
+            side = q ∙ sym (c .2 ∙ ap (xor odd) (h .side ∙ (ap (xor (getD flips x false)) (own .1) ∙ xor-false (getD flips x false))));
+            own = rw n own;
+          },
+          c .0,
+        );
   }
 
 -- ---- one edge more
@@ -213,9 +216,12 @@ module _ (ends : List ℕ) (k : ℕ) where
     kept-joined e =
         let low : (v : ℕ) → lowest ends (suc k) v ≡ lowest ends k v = λ v. lowest-next v ∙ simp (none-gives lowFirst lowSecond (lowest ends k v) e) in
         let odd : (v : ℕ) → oddSide ends (suc k) v ≡ oddSide ends k v = λ v. odd-next v ∙ simp (none-gives lowFirst lowSecond (lowest ends k v) e, xor-false) in
-        record { forest = joined .forest; hangs = λ v h.
-            let g = joined .hangs v h in
-            record { together = low (getD up v 0) ∙ (g .together ∙ sym (low v)); side = odd v ∙ (g .side ∙ ap (xor (getD flips v false)) (sym (odd (getD up v 0)))); root = λ p. let o = g .root p in (low v ∙ o .0, odd v ∙ o .1) } }
+        record {
+          forest = joined .forest;
+          hangs = λ v h.
+              let g = joined .hangs v h in
+              record { together = low (getD up v 0) ∙ (g .together ∙ sym (low v)); side = odd v ∙ (g .side ∙ ap (xor (getD flips v false)) (sym (odd (getD up v 0)))); root = λ p. let o = g .root p in (low v ∙ o .0, odd v ∙ o .1) };
+        }
 
     edge-inside : lowFirst ≡ lowSecond → Taken ends (k + 1) up flips (not same)
     edge-inside e = rw (add-one k) (record { answer = rw cycle-next (simp (fine, eq-eqb lowFirst lowSecond e)); joined = λ t. kept-joined e })
@@ -239,12 +245,12 @@ module _ (ends : List ℕ) (k : ℕ) where
           let here = stays lo (λ p. omega arith) low-own in
           hung-holds up flips (joined .forest) hi inside lo same (omega arith) (lowest ends (suc k)) (oddSide ends (suc k))
           (λ v h n.
-            let g = joined .hangs v h in
-            record {
-              together = low (getD up v 0) ∙ (ap (λ (r : ℕ). cond (eqb r hi) lo r) (g .together) ∙ sym (low v));
-              side = odd v ∙ rw (g .side, ← xor-assoc) (ap (xor (getD flips v false)) (rw (← g .together) (sym (odd (getD up v 0)))));
-              root = λ p. stays v n (g .root p);
-            })
+          let g = joined .hangs v h in
+          record {
+            together = low (getD up v 0) ∙ (ap (λ (r : ℕ). cond (eqb r hi) lo r) (g .together) ∙ sym (low v));
+            side = odd v ∙ rw (g .side, ← xor-assoc) (ap (xor (getD flips v false)) (rw (← g .together) (sym (odd (getD up v 0)))));
+            root = λ p. stays v n (g .root p);
+          })
           (record {
             together = here .0 ∙ sym (low hi ∙ simp (high-own .0, eq-eqb hi hi refl));
             side = odd hi ∙ simp (high-own .0, high-own .1, eq-eqb hi hi refl, here .1, xor-false, false-xor);
@@ -290,10 +296,14 @@ module _ (up₀ : List ℕ) (flips₀ : List Bool) (first second : ℕ) (a b : R
 
     pub join-apart : (a .node .0 ≡ b .node .0 → ⊥) → Joins up₀ flips₀ first second (set up high low) (set flips high (Bool·beq (a .odd) (b .odd))) true
     join-apart n = elim order [
-      | inl (h, l, t) ↦ rw (l, t) (record { taken = λ ends k p q joined fine.
-          let r = both ends k p q joined in hung-first ends k up flips (r .0) fine a b (r .1) (r .2) h (omega (arith, finds .inside)) })
-      | inr (h, l, t) ↦ rw (l, t) (record { taken = λ ends k p q joined fine.
-          let r = both ends k p q joined in hung-second ends k up flips (r .0) fine a b (r .1) (r .2) (omega arith) (finds′ .inside) })
+      | inl (h, l, t) ↦ rw (l, t) (record {
+        taken = λ ends k p q joined fine.
+            let r = both ends k p q joined in hung-first ends k up flips (r .0) fine a b (r .1) (r .2) h (omega (arith, finds .inside));
+      })
+      | inr (h, l, t) ↦ rw (l, t) (record {
+        taken = λ ends k p q joined fine.
+            let r = both ends k p q joined in hung-second ends k up flips (r .0) fine a b (r .1) (r .2) (omega arith) (finds′ .inside);
+      })
     ]
 
 -- ---- all edges

@@ -38,14 +38,17 @@ fn root_of(up: &mut [u16], flips: &mut [bool], node: NodeIndex) -> Root
     loop {
         let next = up[x] as usize;
         let above = up[next];
-        let mut flip = flips[x];
+        let to_next = flips[x];
         if above as usize == next {
-            return Root { node: NodeIndex(above), odd: odd != flip };
+            return Root {
+                node: NodeIndex(above),
+                odd: odd != to_next,
+            };
         }
-        flip = flip != flips[next];
+        let to_above = to_next != flips[next];
         up[x] = above;
-        flips[x] = flip;
-        odd = odd != flip;
+        flips[x] = to_above;
+        odd = odd != to_above;
         x = above as usize;
     }
 }
@@ -121,7 +124,13 @@ fn write_sides(n: usize, up: &[u16], flips: &[bool], sides: &mut [u16])
 }
 
 // Where the answer is true the first n colours are those of `sides`; where it is false an odd closed walk exists.
-pub(crate) fn color_nodes(n: usize, ends: &[u16], up: &mut [u16], flips: &mut [bool], colors: &mut [u16]) -> bool
+pub(crate) fn color_nodes(
+    n: usize,
+    ends: &[u16],
+    up: &mut [u16],
+    flips: &mut [bool],
+    colors: &mut [u16],
+) -> bool
     requires { ⌜ Passed n (now ends) ⌝ }
     requires { ⌜ (length (now up) ≡ 512) × (now flips ≡ replicate 512 false) × (length (now colors) ≡ 512) ⌝ }
     ensures { λ r. ⌜ (r ≡ true → (oddCycle (now (ends .entry)) (edgeCount (now (ends .entry))) ≡ false) × (take n (now (colors .exit)) ≡ sides (now (ends .entry)) (edgeCount (now (ends .entry))) n))

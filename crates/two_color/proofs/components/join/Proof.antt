@@ -27,8 +27,12 @@ slice-write-up c = join-room _ _ _ _ _ _ _ _ _ _ (c .before .before .before .bef
     (⊎-elim (λ w. inl (w .0 .taken, w .1, w .2)) (λ w. inr (w .0 .left, w .1, w .2)) (c .before .if2 .came))
 
 slice-write-flips : tie.Need-slice-write-flips
-slice-write-flips c = omega (arith, c .before .before .before .before .before .before .before .before .before .root-of2 .ensures .forest .size, join-room _ _ _ _ _ _ _ _ _ _ (c .before .before .before .before .before .before .before .before .before .before .before .before .before .before .before .before .root-of .ensures) (c .before .before .before .before .before .before .before .before .before .root-of2 .ensures) (c .before .before .before .before .before .before .before .before .before .root-of2 .kept .0) _ _
-    (⊎-elim (λ w. inl (w .0 .taken, w .1, w .2)) (λ w. inr (w .0 .left, w .1, w .2)) (c .before .if2 .came)))
+slice-write-flips c = omega (
+  arith,
+  c .before .before .before .before .before .before .before .before .before .root-of2 .ensures .forest .size,
+  join-room _ _ _ _ _ _ _ _ _ _ (c .before .before .before .before .before .before .before .before .before .before .before .before .before .before .before .before .root-of .ensures) (c .before .before .before .before .before .before .before .before .before .root-of2 .ensures) (c .before .before .before .before .before .before .before .before .before .root-of2 .kept .0) _ _
+      (⊎-elim (λ w. inl (w .0 .taken, w .1, w .2)) (λ w. inr (w .0 .left, w .1, w .2)) (c .before .if2 .came)),
+)
 
 same-length-3 : tie.Need-same-length-3
 same-length-3 c = simp length-set (c .before .before .before .before .before .before .before .before .before .root-of2 .kept .0 ∙ c .before .before .before .before .before .before .before .before .before .before .before .before .before .before .before .before .root-of .kept .0)

@@ -25,8 +25,8 @@ mul-above c = omega (arith, c .slice-known .given (c .before .loop .x))
 slice-read-above : tie.Need-slice-read-above Inv-loop μ-loop
 slice-read-above c = next-inside _ _ _ _ _ _ _ (c .before .before .loop .inv .0)
 
-slice-read-flip : tie.Need-slice-read-flip Inv-loop μ-loop
-slice-read-flip c = let i = c .before .before .before .loop .inv .0 in omega (arith, i .inside, i .forest .size)
+slice-read-to-next : tie.Need-slice-read-to-next Inv-loop μ-loop
+slice-read-to-next c = let i = c .before .before .before .loop .inv .0 in omega (arith, i .inside, i .forest .size)
 
 cast-if1 : tie.Need-cast-if1 Inv-loop μ-loop
 cast-if1 c = omega (arith, c .before .slice-known2 .given (getD (c .before .before .before .loop .up) (c .before .before .before .loop .x) 0))
@@ -35,8 +35,8 @@ returns : tie.Need-returns Inv-loop μ-loop
 unfolding xor
 returns c = climb-done _ _ _ _ _ _ _ (c .before .before .before .before .loop .inv .0) _ (c .if1 .taken) refl refl
 
-slice-read-flip-2 : tie.Need-slice-read-flip-2 Inv-loop μ-loop
-slice-read-flip-2 c = omega (arith, next-inside _ _ _ _ _ _ _ (c .before .before .before .before .before .loop .inv .0), c .before .before .before .before .before .loop .inv .0 .forest .size)
+slice-read-to-above : tie.Need-slice-read-to-above Inv-loop μ-loop
+slice-read-to-above c = omega (arith, next-inside _ _ _ _ _ _ _ (c .before .before .before .before .before .loop .inv .0), c .before .before .before .before .before .loop .inv .0 .forest .size)
 
 slice-write-flips : tie.Need-slice-write-flips Inv-loop μ-loop
 slice-write-flips c = let i = c .before .before .before .before .before .loop .inv .0 in omega (arith, i .inside, i .forest .size)
@@ -63,11 +63,11 @@ root-of-spec =
     cast-next
     mul-above
     slice-read-above
-    slice-read-flip
+    slice-read-to-next
     cast-if1
     (λ c. c .before .before .before .before .loop .inv .0 .size) (λ c. c .before .before .before .before .loop .inv .1)
     returns
-    slice-read-flip-2
+    slice-read-to-above
     (λ c. omega arith) (λ c. c .before .before .before .before .before .loop .inv .0 .inside)
     slice-write-flips
     cast-x-2
