@@ -3,14 +3,14 @@ use Prim.Native.Nat.{ℕ, zero, suc, _+_, _-_, _≤_, _<_}
 use mathlib.Core.Path.{_≡_, refl, sym, ap, _∙_}
 use mathlib.Core.Logic.{_⊎_, inl, inr, _≢_}
 use mathlib.Core.List.{List}
-use mathlib.Core.Bool.{Bool, true, false, not, _&&_, _||_, xor, Bool·beq, cond, and-true as and-with-true, and-false, false≢true, true≢false}
+use mathlib.Core.Bool.{Bool, true, false, not, _&&_, _||_, xor, Bool·beq, cond, false≢true, true≢false}
 use native.Mathlib.Numerals.{add-one}
 use native.Mathlib.Nat.{not-suc-le-zero}
 use native.Mathlib.Omega.{arith}
 use lib.ListN.{length, getD, set, take, replicate, length-set, getD-replicate}
 use lib.Seq.{getD-set-same, getD-set-other, getD-take, length-take-le, ext-getD}
-use lib.Dec.{eqb, ltb}
-use borrow.Author.Tests.{lt-ltb, le-ltb, eq-eqb, ne-eqb, eqb-true, eqb-false}
+use lib.Dec.{eqb}
+use borrow.Author.Tests.{lt-ltb, le-ltb, eq-eqb, ne-eqb, eqb-true}
 use Rattle.lists.specs.Tests.{by-test, dec-eq, true-or}
 use Rattle.graph.specs.CheckLaws.{Passed}
 use Rattle.graph.specs.Edges.{firstEnd, secondEnd}
@@ -42,7 +42,7 @@ Joined ends k = Holds (lowest ends k) (oddSide ends k)
 -- ---- one node is hung elsewhere
 
 module _ (up : List ℕ) (flips : List Bool) (forest : Forest up flips) (x : ℕ) (inside : x < length up) (u : ℕ) (flip : Bool) (le : u ≤ x) where
-  pub hung-forest : Forest (set up x u) (set flips x flip)
+  hung-forest : Forest (set up x u) (set flips x flip)
   hung-forest = record {
     size = simp length-set (forest .size);
     above = λ v h. elim (dec-eq v x) [
@@ -161,30 +161,30 @@ pub record Joins (up : List ℕ) (flips : List Bool) (first second : ℕ) (up′
   pub taken : (ends : List ℕ) (k : ℕ) → first ≡ firstEnd ends k → second ≡ secondEnd ends k → Joined ends k up flips → oddCycle ends k ≡ false → Taken ends (k + 1) up′ flips′ r
 
 -- Of two different nodes the higher gives way, in whichever order they come.
-second-gives : (lo hi r : ℕ) → lo < hi → givesWay lo hi r ≡ eqb r hi
+second-gives : (low high r : ℕ) → low < high → givesWay low high r ≡ eqb r high
 unfolding givesWay lower
-second-gives lo hi r h = simp (lt-ltb lo hi h) (by-test (eqb r hi)
-    (λ t. let p = eqb-true r hi t in simp (true-or (eqb r lo) (eqb r hi) t, lt-ltb lo r (omega arith)) (sym t))
-    (λ t. by-test (eqb r lo) (λ s. let p = eqb-true r lo s in simp (t, s, le-ltb lo r (omega arith))) (λ s. simp (t, s))))
+second-gives low high r h = simp (lt-ltb low high h) (by-test (eqb r high)
+    (λ t. let p = eqb-true r high t in simp (true-or (eqb r low) (eqb r high) t, lt-ltb low r (omega arith)) (sym t))
+    (λ t. by-test (eqb r low) (λ s. let p = eqb-true r low s in simp (t, s, le-ltb low r (omega arith))) (λ s. simp (t, s))))
 
-first-gives : (lo hi r : ℕ) → lo < hi → givesWay hi lo r ≡ eqb r hi
+first-gives : (low high r : ℕ) → low < high → givesWay high low r ≡ eqb r high
 unfolding givesWay lower
-first-gives lo hi r h = simp (le-ltb hi lo (omega arith)) (by-test (eqb r hi)
-    (λ t. let p = eqb-true r hi t in simp (t, lt-ltb lo r (omega arith)))
-    (λ t. by-test (eqb r lo) (λ s. let p = eqb-true r lo s in simp (t, s, le-ltb lo r (omega arith))) (λ s. simp (t, s))))
+first-gives low high r h = simp (le-ltb high low (omega arith)) (by-test (eqb r high)
+    (λ t. let p = eqb-true r high t in simp (t, lt-ltb low r (omega arith)))
+    (λ t. by-test (eqb r low) (λ s. let p = eqb-true r low s in simp (t, s, le-ltb low r (omega arith))) (λ s. simp (t, s))))
 
 none-gives : (a b r : ℕ) → a ≡ b → givesWay a b r ≡ false
 unfolding givesWay lower
 none-gives a b r e = rw e (simp (le-ltb b b (omega arith)) (by-test (eqb r b)
     (λ t. let p = eqb-true r b t in simp (t, le-ltb b r (omega arith))) (λ t. simp t)))
 
-second-lower : (lo hi : ℕ) → lo < hi → lower lo hi ≡ lo
+second-lower : (low high : ℕ) → low < high → lower low high ≡ low
 unfolding lower
-second-lower lo hi h = simp (lt-ltb lo hi h)
+second-lower low high h = simp (lt-ltb low high h)
 
-first-lower : (lo hi : ℕ) → lo < hi → lower hi lo ≡ lo
+first-lower : (low high : ℕ) → low < high → lower high low ≡ low
 unfolding lower
-first-lower lo hi h = simp (le-ltb hi lo (omega arith))
+first-lower low high h = simp (le-ltb high low (omega arith))
 
 module _ (ends : List ℕ) (k : ℕ) where
   -- Of the edges before edge k: the lowest nodes of its ends, and whether these are on the same side.
@@ -228,36 +228,36 @@ module _ (ends : List ℕ) (k : ℕ) where
 
     -- ---- two components become one
 
-    module _ (lo hi : ℕ) (lt : lo < hi) (gives : (r : ℕ) → givesWay lowFirst lowSecond r ≡ eqb r hi) (least : lower lowFirst lowSecond ≡ lo) (apart : lowFirst ≢ lowSecond)
-        (low-own : (lowest ends k lo ≡ lo) × (oddSide ends k lo ≡ false)) (high-own : (lowest ends k hi ≡ hi) × (oddSide ends k hi ≡ false)) (inside : hi < length up) where
-      low : (v : ℕ) → lowest ends (suc k) v ≡ cond (eqb (lowest ends k v) hi) lo (lowest ends k v)
-      low v = lowest-next v ∙ simp (gives (lowest ends k v), least)
+    module _ (low high : ℕ) (lt : low < high) (gives : (r : ℕ) → givesWay lowFirst lowSecond r ≡ eqb r high) (least : lower lowFirst lowSecond ≡ low) (apart : lowFirst ≢ lowSecond)
+        (low-own : (lowest ends k low ≡ low) × (oddSide ends k low ≡ false)) (high-own : (lowest ends k high ≡ high) × (oddSide ends k high ≡ false)) (inside : high < length up) where
+      joined-lowest : (v : ℕ) → lowest ends (suc k) v ≡ cond (eqb (lowest ends k v) high) low (lowest ends k v)
+      joined-lowest v = lowest-next v ∙ simp (gives (lowest ends k v), least)
 
-      odd : (v : ℕ) → oddSide ends (suc k) v ≡ xor (oddSide ends k v) (eqb (lowest ends k v) hi && same)
-      odd v = odd-next v ∙ simp (gives (lowest ends k v))
+      joined-odd : (v : ℕ) → oddSide ends (suc k) v ≡ xor (oddSide ends k v) (eqb (lowest ends k v) high && same)
+      joined-odd v = odd-next v ∙ simp (gives (lowest ends k v))
 
       -- A root other than the higher one stays.
-      stays : (w : ℕ) → w ≢ hi → (lowest ends k w ≡ w) × (oddSide ends k w ≡ false) → (lowest ends (suc k) w ≡ w) × (oddSide ends (suc k) w ≡ false)
-      stays w n (p, q) = (low w ∙ simp (p, ne-eqb w hi n), odd w ∙ simp (p, ne-eqb w hi n, q, xor-false))
+      stays : (w : ℕ) → w ≢ high → (lowest ends k w ≡ w) × (oddSide ends k w ≡ false) → (lowest ends (suc k) w ≡ w) × (oddSide ends (suc k) w ≡ false)
+      stays w n (p, q) = (joined-lowest w ∙ simp (p, ne-eqb w high n), joined-odd w ∙ simp (p, ne-eqb w high n, q, xor-false))
 
-      hung-joined : Joined ends (suc k) (set up hi lo) (set flips hi same)
+      hung-joined : Joined ends (suc k) (set up high low) (set flips high same)
       hung-joined =
-          let here = stays lo (λ p. omega arith) low-own in
-          hung-holds up flips (joined .forest) hi inside lo same (omega arith) (lowest ends (suc k)) (oddSide ends (suc k))
+          let here = stays low (λ p. omega arith) low-own in
+          hung-holds up flips (joined .forest) high inside low same (omega arith) (lowest ends (suc k)) (oddSide ends (suc k))
           (λ v h n.
           let g = joined .hangs v h in
           record {
-            together = low (getD up v 0) ∙ (ap (λ (r : ℕ). cond (eqb r hi) lo r) (g .together) ∙ sym (low v));
-            side = odd v ∙ rw (g .side, ← xor-assoc) (ap (xor (getD flips v false)) (rw (← g .together) (sym (odd (getD up v 0)))));
+            together = joined-lowest (getD up v 0) ∙ (ap (λ (r : ℕ). cond (eqb r high) low r) (g .together) ∙ sym (joined-lowest v));
+            side = joined-odd v ∙ rw (g .side, ← xor-assoc) (ap (xor (getD flips v false)) (rw (← g .together) (sym (joined-odd (getD up v 0)))));
             root = λ p. stays v n (g .root p);
           })
           (record {
-            together = here .0 ∙ sym (low hi ∙ simp (high-own .0, eq-eqb hi hi refl));
-            side = odd hi ∙ simp (high-own .0, high-own .1, eq-eqb hi hi refl, here .1, xor-false, false-xor);
+            together = here .0 ∙ sym (joined-lowest high ∙ simp (high-own .0, eq-eqb high high refl));
+            side = joined-odd high ∙ simp (high-own .0, high-own .1, eq-eqb high high refl, here .1, xor-false, false-xor);
             root = λ p. absurd (omega arith);
           })
 
-      taken-apart : Taken ends (k + 1) (set up hi lo) (set flips hi same) true
+      taken-apart : Taken ends (k + 1) (set up high low) (set flips high same) true
       taken-apart = rw (add-one k) (record { answer = rw cycle-next (simp (fine, ne-eqb lowFirst lowSecond apart)); joined = λ t. hung-joined })
 
     -- ---- as the code finds the roots of the two ends

@@ -1,7 +1,7 @@
 // Components and sides, one edge after the other: disjoint sets, as trees in which each node hangs under a lower one.
 ghost use mathlib.Core.Path.{_≡_};
 ghost use mathlib.Core.Bool.{Bool, true, false, cond};
-ghost use Prim.Native.Nat.{ℕ, suc, _+_, _-_, _≤_, _<_};
+ghost use Prim.Native.Nat.{ℕ, _-_, _≤_, _<_};
 ghost use lib.ListN.{length, getD, take, replicate};
 ghost use Rattle.graph.specs.CheckLaws.{Passed};
 ghost use Rattle.graph.specs.Edges.{edgeCount};
@@ -94,18 +94,18 @@ fn join_edges(ends: &[u16], up: &mut [u16], flips: &mut [bool]) -> bool
     true
 }
 
-// The colour of a node that hangs under one of this colour: the other of 0 and 1 where it flips.
-fn color_under(color: u16, flip: bool) -> u16
-    requires { ⌜ color ≤ 1 ⌝ }
-    ensures { λ r. ⌜ r ≡ cond flip (1 - color) color ⌝ }
+// The side of a node that hangs under one of this side: the other of 0 and 1 where it flips.
+fn side_under(side: u16, flip: bool) -> u16
+    requires { ⌜ side ≤ 1 ⌝ }
+    ensures { λ r. ⌜ r ≡ cond flip (1 - side) side ⌝ }
 {
     if flip {
-        return 1 - color;
+        return 1 - side;
     }
-    color
+    side
 }
 
-// A root gets 1, each other node its colour from the one that it hangs under.
+// A root gets 1, each other node its side from the one that it hangs under.
 fn write_sides(n: usize, up: &[u16], flips: &[bool], sides: &mut [u16])
     requires { ⌜ Forest (now up) (now flips) ⌝ }
     requires { ⌜ (n ≤ length (now up)) × (n ≤ length (now sides)) ⌝ }
@@ -117,7 +117,7 @@ fn write_sides(n: usize, up: &[u16], flips: &[bool], sides: &mut [u16])
         if above == v {
             sides[v] = 1;
         } else {
-            sides[v] = color_under(sides[above], flips[v]);
+            sides[v] = side_under(sides[above], flips[v]);
         }
         v += 1;
     }

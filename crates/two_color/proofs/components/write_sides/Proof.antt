@@ -18,14 +18,14 @@ loop-holds c = colored-none _ _ _ _ (c .before .before .before .pre .0) (c .befo
 cast-above : tie.Need-cast-above Inv-loop μ-loop
 cast-above c = omega (arith, c .shared-slice-known3 .given (c .before .before .loop .v))
 
-mul-color-under : tie.Need-mul-color-under Inv-loop μ-loop
-mul-color-under c = omega (arith, c .before .shared-slice-known3 .given (c .before .before .before .loop .v))
+mul-side-under : tie.Need-mul-side-under Inv-loop μ-loop
+mul-side-under c = omega (arith, c .before .shared-slice-known3 .given (c .before .before .before .loop .v))
 
-slice-read-color-under : tie.Need-slice-read-color-under Inv-loop μ-loop
-slice-read-color-under c = above-colored _ _ _ _ _ _ (c .before .before .before .before .loop .inv) (c .before .before .before .loop-test .taken) (c .before .if1 .left)
+slice-read-side-under : tie.Need-slice-read-side-under Inv-loop μ-loop
+slice-read-side-under c = above-colored _ _ _ _ _ _ (c .before .before .before .before .loop .inv) (c .before .before .before .loop-test .taken) (c .before .if1 .left)
 
-color-under-requires : tie.Need-color-under-requires Inv-loop μ-loop
-color-under-requires c κs = above-two _ _ _ _ _ _ (c .before .before .before .before .before .loop .inv) (c .before .before .before .before .loop-test .taken) (c .before .before .if1 .left)
+side-under-requires : tie.Need-side-under-requires Inv-loop μ-loop
+side-under-requires c κs = above-two _ _ _ _ _ _ (c .before .before .before .before .before .loop .inv) (c .before .before .before .before .loop-test .taken) (c .before .before .if1 .left)
 
 loop-again : tie.Need-loop-again Inv-loop μ-loop
 loop-again c =
@@ -46,10 +46,10 @@ write-sides-spec =
     (λ c. omega arith) (λ c. omega arith)
     cast-above
     (λ c. omega arith) (λ c. omega arith)
-    mul-color-under
-    slice-read-color-under
+    mul-side-under
+    slice-read-side-under
     (λ c. omega (arith, c .before .before .before .before .before .loop .inv .forest .size))
-    color-under-requires
+    side-under-requires
     (λ c. omega arith) (λ c. omega arith) (λ c. omega arith) (λ c. omega arith)
     loop-again
     (λ c. c .before .loop .inv .size)

@@ -1,7 +1,0 @@
--- `color_under` meets its contract.
-use native.Mathlib.Omega.{arith}
-use Rattle.two_color.proofs.components.color_under.Statement.{statement}
-use Rattle.two_color.proofs.components.color_under.Tie as tie
-
-pub color-under-spec : {M : Type 1} → statement M
-color-under-spec = tie.close (tie.spec (λ c. omega arith) (λ c. simp (c .if1 .taken)) (λ c. simp (c .if1 .left)))
