@@ -289,22 +289,22 @@ module _ (up₀ : List ℕ) (flips₀ : List Bool) (first second : ℕ) (a b : R
   pub join-inside : a .node .0 ≡ b .node .0 → Joins up₀ flips₀ first second up flips (not (Bool·beq (a .odd) (b .odd)))
   join-inside e = record { taken = λ ends k p q joined fine. let r = both ends k p q joined in roots-meet ends k up flips (r .0) fine a b (r .1) (r .2) e }
 
-  module _ (size : length up ≡ length up₁) (low high : ℕ)
-      (order : ((b .node .0 < a .node .0) × (low ≡ b .node .0) × (high ≡ a .node .0)) ⊎ ((a .node .0 ≤ b .node .0) × (low ≡ a .node .0) × (high ≡ b .node .0))) where
-    pub join-room : high < length up
-    join-room = elim order [ inl (h, l, t) ↦ omega (arith, finds .inside) | inr (h, l, t) ↦ omega (arith, finds′ .inside) ]
+  module _ (size : length up ≡ length up₁) (high : ℕ) where
+    pub join-room : (high ≡ a .node .0) ⊎ (high ≡ b .node .0) → high < length up
+    join-room (inl e) = omega (arith, finds .inside)
+    join-room (inr e) = omega (arith, finds′ .inside)
 
-    pub join-apart : (a .node .0 ≡ b .node .0 → ⊥) → Joins up₀ flips₀ first second (set up high low) (set flips high (Bool·beq (a .odd) (b .odd))) true
-    join-apart n = elim order [
-      | inl (h, l, t) ↦ rw (l, t) (record {
-        taken = λ ends k p q joined fine.
-            let r = both ends k p q joined in hung-first ends k up flips (r .0) fine a b (r .1) (r .2) h (omega (arith, finds .inside));
-      })
-      | inr (h, l, t) ↦ rw (l, t) (record {
-        taken = λ ends k p q joined fine.
-            let r = both ends k p q joined in hung-second ends k up flips (r .0) fine a b (r .1) (r .2) (omega arith) (finds′ .inside);
-      })
-    ]
+    pub join-apart : (low : ℕ) → (a .node .0 ≡ b .node .0 → ⊥)
+        → ((b .node .0 < a .node .0) × (low ≡ b .node .0) × (high ≡ a .node .0)) ⊎ ((a .node .0 ≤ b .node .0) × (low ≡ a .node .0) × (high ≡ b .node .0))
+        → Joins up₀ flips₀ first second (set up high low) (set flips high (Bool·beq (a .odd) (b .odd))) true
+    join-apart low n (inl (h, l, t)) = rw (l, t) (record {
+      taken = λ ends k p q joined fine.
+          let r = both ends k p q joined in hung-first ends k up flips (r .0) fine a b (r .1) (r .2) h (omega (arith, finds .inside));
+    })
+    join-apart low n (inr (h, l, t)) = rw (l, t) (record {
+      taken = λ ends k p q joined fine.
+          let r = both ends k p q joined in hung-second ends k up flips (r .0) fine a b (r .1) (r .2) (omega arith) (finds′ .inside);
+    })
 
 -- ---- all edges
 

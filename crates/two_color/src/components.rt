@@ -94,13 +94,21 @@ fn join_edges(ends: &[u16], up: &mut [u16], flips: &mut [bool]) -> bool
     true
 }
 
-// The side of a node that hangs under one of this side: the other of 0 and 1 where it flips.
+// The other of 0 and 1.
+fn other(side: u16) -> u16
+    requires { ⌜ side ≤ 1 ⌝ }
+    ensures { λ r. ⌜ r ≡ 1 - side ⌝ }
+{
+    1 - side
+}
+
+// The side of a node that hangs under one of this side.
 fn side_under(side: u16, flip: bool) -> u16
     requires { ⌜ side ≤ 1 ⌝ }
     ensures { λ r. ⌜ r ≡ cond flip (1 - side) side ⌝ }
 {
     if flip {
-        return 1 - side;
+        return other(side);
     }
     side
 }

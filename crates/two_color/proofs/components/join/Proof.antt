@@ -23,16 +23,10 @@ returns : tie.Need-returns
 returns c = join-inside _ _ _ _ _ _ _ _ _ _ (c .before .before .before .before .before .before .before .before .before .before .before .before .before .before .root-of .ensures) (c .before .before .before .before .before .before .before .root-of2 .ensures) (c .if1 .taken)
 
 slice-write-up : tie.Need-slice-write-up
-slice-write-up c = join-room _ _ _ _ _ _ _ _ _ _ (c .before .before .before .before .before .before .before .before .before .before .before .before .before .before .before .before .root-of .ensures) (c .before .before .before .before .before .before .before .before .before .root-of2 .ensures) (c .before .before .before .before .before .before .before .before .before .root-of2 .kept .0) _ _
-    (⊎-elim (λ w. inl (w .0 .taken, w .1, w .2)) (λ w. inr (w .0 .left, w .1, w .2)) (c .before .if2 .came))
+slice-write-up c = join-room _ _ _ _ _ _ _ _ _ _ (c .before .before .before .before .before .before .before .before .before .before .before .before .before .before .before .before .root-of .ensures) (c .before .before .before .before .before .before .before .before .before .root-of2 .ensures) (c .before .before .before .before .before .before .before .before .before .root-of2 .kept .0) _ (⊎-elim (λ w. inl (w .2)) (λ w. inr (w .2)) (c .before .if2 .came))
 
 slice-write-flips : tie.Need-slice-write-flips
-slice-write-flips c = omega (
-  arith,
-  c .before .before .before .before .before .before .before .before .before .root-of2 .ensures .forest .size,
-  join-room _ _ _ _ _ _ _ _ _ _ (c .before .before .before .before .before .before .before .before .before .before .before .before .before .before .before .before .root-of .ensures) (c .before .before .before .before .before .before .before .before .before .root-of2 .ensures) (c .before .before .before .before .before .before .before .before .before .root-of2 .kept .0) _ _
-      (⊎-elim (λ w. inl (w .0 .taken, w .1, w .2)) (λ w. inr (w .0 .left, w .1, w .2)) (c .before .if2 .came)),
-)
+slice-write-flips c = omega (arith, c .before .before .before .before .before .before .before .before .before .root-of2 .ensures .forest .size, slice-write-up c)
 
 same-length-3 : tie.Need-same-length-3
 same-length-3 c = simp length-set (c .before .before .before .before .before .before .before .before .before .root-of2 .kept .0 ∙ c .before .before .before .before .before .before .before .before .before .before .before .before .before .before .before .before .root-of .kept .0)
@@ -41,8 +35,8 @@ same-length-4 : tie.Need-same-length-4
 same-length-4 c = simp length-set (c .before .before .before .before .before .before .before .before .before .root-of2 .kept .1 .0 ∙ c .before .before .before .before .before .before .before .before .before .before .before .before .before .before .before .before .root-of .kept .1 .0)
 
 returns-2 : tie.Need-returns-2
-returns-2 c = join-apart _ _ _ _ _ _ _ _ _ _ (c .before .before .before .before .before .before .before .before .before .before .before .before .before .before .before .before .root-of .ensures) (c .before .before .before .before .before .before .before .before .before .root-of2 .ensures) (c .before .before .before .before .before .before .before .before .before .root-of2 .kept .0) _ _
-    (⊎-elim (λ w. inl (w .0 .taken, w .1, w .2)) (λ w. inr (w .0 .left, w .1, w .2)) (c .before .if2 .came)) (c .before .before .if1 .left)
+returns-2 c = join-apart _ _ _ _ _ _ _ _ _ _ (c .before .before .before .before .before .before .before .before .before .before .before .before .before .before .before .before .root-of .ensures) (c .before .before .before .before .before .before .before .before .before .root-of2 .ensures) (c .before .before .before .before .before .before .before .before .before .root-of2 .kept .0) _ _ (c .before .before .if1 .left)
+    (⊎-elim (λ w. inl (w .0 .taken, w .1, w .2)) (λ w. inr (w .0 .left, w .1, w .2)) (c .before .if2 .came))
 
 pub join-spec : {M : Type 1} → statement M
 join-spec =
