@@ -18,6 +18,10 @@ pub record Counted (nb : ℕ → List ℕ) (n : ℕ) (colors saturations waiting
   pub differs : (v : ℕ) → v < n → colorOf colors v ≡ noColor → getD saturations v 0 ≡ saturation nb colors v
   pub waits : (v : ℕ) → v < n → colorOf colors v ≡ noColor → getD waiting v 0 ≡ uncoloredNeighbors nb colors v
 
+-- An item with a colour has both counts 0, so that it leads no other.
+pub record Cleared (colors saturations waiting : List ℕ) : Type 0 where
+  pub counts : (v : ℕ) → colorOf colors v ≢ noColor → (getD saturations v 0 ≡ 0) × (getD waiting v 0 ≡ 0)
+
 -- ---- how often
 
 pub mem-count : (k : ℕ) (xs : List ℕ) → Mem k xs → 0 < count k xs

@@ -1,10 +1,11 @@
 -- Strategy Saturation with counts that are kept up to date.
 pub mod Items
+pub mod Standing
 pub mod Counts
 pub mod Notes
 pub mod Stored
-pub mod Touched
 pub mod Around
+pub mod Known
 pub mod Taken
 pub mod Start
 pub mod Choice

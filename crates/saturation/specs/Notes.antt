@@ -36,16 +36,20 @@ more-noted a b s₀ w₀ m₀ s w m s′ w′ m′ p q = record {
   ];
 }
 
--- Each item without a colour has noted the colour as often as it stands among these.
+-- Each item without a colour has noted the colour as often as it stands among these; the counts of the others stay.
 pub record Noted (colors us saturations₀ waiting₀ marks₀ saturations waiting marks : List ℕ) : Type 0 where
   pub at : (u : ℕ) → u < length colors → colorOf colors u ≡ noColor
       → NotedTimes (count u us) (getD saturations₀ u 0) (getD waiting₀ u 0) (getD marks₀ u 0) (getD saturations u 0) (getD waiting u 0) (getD marks u 0)
+  pub kept : (u : ℕ) → colorOf colors u ≢ noColor → (getD saturations u 0 ≡ getD saturations₀ u 0) × (getD waiting u 0 ≡ getD waiting₀ u 0)
 
 pub noted-none : (colors saturations waiting marks : List ℕ) → Noted colors [] saturations waiting marks saturations waiting marks
-noted-none colors saturations waiting marks = record { at = λ u h e. rw (count-none u [] (λ p. p)) (none-noted _ _ _) }
+noted-none colors saturations waiting marks = record { at = λ u h e. rw (count-none u [] (λ p. p)) (none-noted _ _ _); kept = λ u n. (refl, refl) }
 
 pub noted-more : (colors us ws s₀ w₀ m₀ s w m s′ w′ m′ : List ℕ) → Noted colors us s₀ w₀ m₀ s w m → Noted colors ws s w m s′ w′ m′ → Noted colors (us ++ ws) s₀ w₀ m₀ s′ w′ m′
-noted-more colors us ws s₀ w₀ m₀ s w m s′ w′ m′ p q = record { at = λ u h e. rw (count-append u us ws) (more-noted _ _ _ _ _ _ _ _ _ _ _ (p .at u h e) (q .at u h e)) }
+noted-more colors us ws s₀ w₀ m₀ s w m s′ w′ m′ p q = record {
+  at = λ u h e. rw (count-append u us ws) (more-noted _ _ _ _ _ _ _ _ _ _ _ (p .at u h e) (q .at u h e));
+  kept = λ u n. let x = p .kept u n in let y = q .kept u n in (y .0 ∙ x .0, y .1 ∙ x .1);
+}
 
 -- ---- one item notes the colour
 
@@ -56,26 +60,32 @@ module _ (colors s w m : List ℕ) (u : ℕ) where
 
   -- It has a colour: its counts do not matter.
   pub note-colored : u < length colors → (getD colors u 0 ≡ noColor → ⊥) → Noted colors (u ∷ []) s w m s w m
-  note-colored b n = record { at = λ x h e. other x (λ p. n (color-read colors u 0 b ∙ (ap (colorOf colors) (sym p) ∙ e))) s w m refl refl refl }
+  note-colored b n = record { at = λ x h e. other x (λ p. n (color-read colors u 0 b ∙ (ap (colorOf colors) (sym p) ∙ e))) s w m refl refl refl; kept = λ x y. (refl, refl) }
+
+  -- An item with a colour is another.
+  differs : u < length colors → getD colors u 0 ≡ noColor → (x : ℕ) → colorOf colors x ≢ noColor → x ≢ u
+  differs b e x n p = n (ap (colorOf colors) p ∙ (sym (color-read colors u 0 b) ∙ e))
 
   -- The colour is not new to it.
-  pub note-old : u < length w → 0 < getD w u 0 → (getD m u 0 ≡ 0 → ⊥) → Noted colors (u ∷ []) s w m s (set w u (getD w u 0 - 1)) m
-  note-old b h k = record {
+  pub note-old : u < length colors → getD colors u 0 ≡ noColor → u < length w → 0 < getD w u 0 → (getD m u 0 ≡ 0 → ⊥) → Noted colors (u ∷ []) s w m s (set w u (getD w u 0 - 1)) m
+  note-old within bare b h k = record {
     at = λ x i e. elim (dec-eq x u) [
       | inl p ↦ rw (p, count-here u [], count-none u [] (λ q. q), getD-set-same w u (getD w u 0 - 1) 0 b)
           (record { waits = omega arith; not-yet = λ z. absurd (let y : ⊥ = omega arith in y); old = λ z. (refl, z); new = λ z y. absurd (k z) })
       | inr p ↦ other x p s (set w u (getD w u 0 - 1)) m refl (getD-set-other w u x _ 0 p) refl
     ];
+    kept = λ x n. (refl, getD-set-other w u x (getD w u 0 - 1) 0 (differs within bare x n));
   }
 
   -- The colour is new to it.
-  pub note-new : u < length s → u < length w → u < length m → 0 < getD w u 0 → getD m u 0 ≡ 0 → Noted colors (u ∷ []) s w m (set s u (getD s u 0 + 1)) (set w u (getD w u 0 - 1)) (set m u 1)
-  note-new a b d h k = record {
+  pub note-new : u < length colors → getD colors u 0 ≡ noColor → u < length s → u < length w → u < length m → 0 < getD w u 0 → getD m u 0 ≡ 0 → Noted colors (u ∷ []) s w m (set s u (getD s u 0 + 1)) (set w u (getD w u 0 - 1)) (set m u 1)
+  note-new within bare a b d h k = record {
     at = λ x i e. elim (dec-eq x u) [
       | inl p ↦ rw (p, count-here u [], count-none u [] (λ q. q), getD-set-same s u (getD s u 0 + 1) 0 a, getD-set-same w u (getD w u 0 - 1) 0 b, getD-set-same m u 1 0 d)
           (record { waits = omega arith; not-yet = λ z. absurd (let y : ⊥ = omega arith in y); old = λ z. absurd (z k); new = λ z y. (omega arith, λ q. omega arith) })
       | inr p ↦ other x p (set s u (getD s u 0 + 1)) (set w u (getD w u 0 - 1)) (set m u 1) (getD-set-other s u x _ 0 p) (getD-set-other w u x _ 0 p) (getD-set-other m u x 1 0 p)
     ];
+    kept = λ x n. let o = differs within bare x n in (getD-set-other s u x (getD s u 0 + 1) 0 o, getD-set-other w u x (getD w u 0 - 1) 0 o);
   }
 
 -- ---- one edge after the other

@@ -55,10 +55,14 @@ unfolding uncoloredAmong
 all-uncolored colors [] bare = refl
 all-uncolored colors (u ∷ us) bare = rw (uncolored-false colors u (bare u)) (ap suc (all-uncolored colors us bare))
 
+-- No item has a colour.
+started-bare : (nb : ℕ → List ℕ) (n : ℕ) (colors waiting : List ℕ) → length colors ≡ n → Started nb n colors waiting → (u : ℕ) → colorOf colors u ≡ noColor
+started-bare nb n colors waiting size p u = elim (decLt u n) [ yes h ↦ p .bare u h | no h ↦ color-outside colors u (omega arith) ]
+
 started-counted : (nb : ℕ → List ℕ) (n : ℕ) (colors saturations waiting : List ℕ) → length colors ≡ n → Started nb n colors waiting → ((v : ℕ) → getD saturations v 0 ≡ 0) → Counted nb n colors saturations waiting
 unfolding colorsAmong
 started-counted nb n colors saturations waiting size p zeros =
-    let bare : (u : ℕ) → colorOf colors u ≡ noColor = λ u. elim (decLt u n) [ yes h ↦ p .bare u h | no h ↦ color-outside colors u (omega arith) ] in
+    let bare = started-bare nb n colors waiting size p in
     record {
       differs = λ v h e. sym (saturation-among nb colors v ∙ (ap (λ (l : List ℕ). different (map (colorOf colors) l)) (none-colored colors (nb v) bare) ∙ (different-none ∙ sym (zeros v))));
       waits = λ v h e. sym (waiting-among nb colors v ∙ (all-uncolored colors (nb v) bare ∙ sym (p .waits v h)));
@@ -75,6 +79,7 @@ started-ready kind ends starts entries items colors saturations waiting tabled s
     record {
       tabled = rw size tabled;
       counted = rw size (started-counted (neighborsOf kind ends) items colors saturations waiting size started (λ v. ap (λ (l : List ℕ). getD l v 0) zeros ∙ zero-at 4096 v));
+      cleared = record { counts = λ v n. absurd (n (started-bare (neighborsOf kind ends) items colors waiting size started v)) };
       saturations-room = omega (arith, few, ap length zeros ∙ length-replicate {A = ℕ} 4096 0);
       waiting-room = omega (arith, few);
     }
@@ -89,7 +94,7 @@ pub record Preset (presets : List ℕ) (v : ℕ) (colors : List ℕ) : Type 0 wh
 pub preset-none : (nb : ℕ → List ℕ) (n : ℕ) (presets colors waiting : List ℕ) → length colors ≡ n → Started nb n colors waiting → Preset presets 0 colors
 preset-none nb n presets colors waiting size p = record {
   done = λ u h. absurd (not-suc-le-zero h);
-  bare = λ u h. elim (decLt u n) [ yes b ↦ p .bare u b | no b ↦ color-outside colors u (omega arith) ];
+  bare = λ u h. started-bare nb n colors waiting size p u;
 }
 
 pub preset-more : (presets colors colors′ : List ℕ) (v c : ℕ) → Preset presets v colors → v < length colors → v < length presets → c ≡ getD presets v 0 → colors′ ≡ set colors v c → Preset presets (v + 1) colors′

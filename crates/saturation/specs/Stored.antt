@@ -1,13 +1,12 @@
 -- A list with a value stored at each of some places, one after the other.
 use Prim.Native.Nat.{ℕ, _+_, _≤_, _<_}
-use mathlib.Core.Path.{_≡_, refl, ap, _∙_}
+use mathlib.Core.Path.{_≡_, refl, _∙_}
 use mathlib.Core.Logic.{inl, inr}
-use mathlib.Core.List.{List, [], _∷_, _++_, append-nil}
+use mathlib.Core.List.{List, [], _∷_, _++_}
 use native.Mathlib.Omega.{arith}
 use lib.ListN.{length, getD, take, set, length-set}
 use lib.Seq.{take-length, getD-set-same, getD-set-other}
 use Rattle.lists.specs.Member.{Mem, dec-mem}
-use Rattle.greedy.specs.Marks.{Marked, marked-more}
 use Rattle.saturation.specs.declared.items.Kind.{Kind}
 use Rattle.saturation.specs.Items.{acrossOf}
 use Rattle.saturation.specs.Notes.{acrossAll, across-more}
@@ -57,21 +56,3 @@ module _ (f : ℕ → ℕ) where
 
       pub along-all : i ≤ length ks → length ks ≤ i → marks ≡ stored (acrossAll kind ends w ks) marks₀
       along-all h k = let e : i ≡ length ks = omega arith in p ∙ rw (e, take-length ks)
-
--- The value of a mark.
-unfoldable pub marking : ℕ → ℕ
-marking w = 1
-
-pub one-marking : (w : ℕ) → 1 ≡ marking w
-unfolding marking
-one-marking w = refl
-
--- Marks on these places too.
-pub stored-marked : (ws us marks : List ℕ) → Marked marks us → Marked (stored marking ws marks) (us ++ ws)
-unfolding stored marking
-stored-marked [] us marks m = rw (append-nil us) m
-stored-marked (w ∷ ws) us marks m = rw (append-cons us w ws) (stored-marked ws (us ++ w ∷ []) (set marks w 1) (marked-more marks us w m))
-  where
-    append-cons : (xs : List ℕ) (x : ℕ) (ys : List ℕ) → xs ++ x ∷ ys ≡ (xs ++ x ∷ []) ++ ys
-    append-cons [] x ys = refl
-    append-cons (z ∷ xs) x ys = ap (λ (l : List ℕ). z ∷ l) (append-cons xs x ys)

@@ -5,7 +5,7 @@ use mathlib.Core.Logic.{inl, inr, _≢_}
 use mathlib.Core.List.{List}
 use native.Mathlib.Omega.{arith}
 use lib.ListN.{length, getD, set, length-set}
-use lib.Seq.{set-getD, getD-set-other}
+use lib.Seq.{set-getD, getD-set-same, getD-set-other}
 use Rattle.lists.specs.Tests.{dec-eq}
 use Rattle.lists.specs.Different.{different, count}
 use Rattle.graph.specs.Colored.{noColor, colorOf}
@@ -14,9 +14,9 @@ use Rattle.greedy.specs.Greedy.{Neighborhood}
 use Rattle.greedy.specs.Saturation.{saturation, uncoloredNeighbors, uncoloredAmong}
 use Rattle.saturation.specs.declared.items.Kind.{Kind}
 use Rattle.saturation.specs.Items.{neighborsOf, Tabled, neighborhood}
-use Rattle.saturation.specs.Counts.{Counted, colorsAmong, count-mem, mem-count, different-few, uncolored-falls, different-stays, different-grows}
+use Rattle.saturation.specs.Counts.{Counted, Cleared, colorsAmong, count-mem, mem-count, different-few, uncolored-falls, different-stays, different-grows}
 use Rattle.saturation.specs.Notes.{Noted, Room}
-use Rattle.saturation.specs.Touched.{Known}
+use Rattle.saturation.specs.Known.{Known}
 use Rattle.saturation.specs.Around.{around, around-times}
 
 pub saturation-among : (nb : ℕ → List ℕ) (colors : List ℕ) (v : ℕ) → saturation nb colors v ≡ different (colorsAmong colors (nb v))
@@ -77,14 +77,26 @@ module _ (nb : ℕ → List ℕ) (n : ℕ) (hood : Neighborhood nb n) (colors s�
           ]);
     }
 
--- The counts of an item with a colour do not matter.
-cleared : (nb : ℕ → List ℕ) (n : ℕ) (colors s w : List ℕ) (v : ℕ) → Counted nb n colors s w → colorOf colors v ≢ noColor → Counted nb n colors (set s v 0) (set w v 0)
-cleared nb n colors s w v counted colored =
+-- The counts of v, which has its colour, are cleared: the others' are still right,
+clear-counted : (nb : ℕ → List ℕ) (n : ℕ) (colors s w : List ℕ) (v : ℕ) → Counted nb n colors s w → colorOf colors v ≢ noColor → Counted nb n colors (set s v 0) (set w v 0)
+clear-counted nb n colors s w v counted colored =
     let other : (u : ℕ) → colorOf colors u ≡ noColor → u ≢ v = λ u e p. colored (ap (colorOf colors) (sym p) ∙ e) in
     record {
       differs = λ u h e. getD-set-other s v u 0 0 (other u e) ∙ counted .differs u h e;
       waits = λ u h e. getD-set-other w v u 0 0 (other u e) ∙ counted .waits u h e;
     }
+
+-- and each item with a colour has none.
+clear-cleared : (colors us s₀ w₀ m₀ s w m : List ℕ) (v c : ℕ) → Cleared colors s₀ w₀ → Noted (set colors v c) us s₀ w₀ m₀ s w m → v < length s → v < length w → Cleared (set colors v c) (set s v 0) (set w v 0)
+clear-cleared colors us s₀ w₀ m₀ s w m v c cleared noted h k = record {
+  counts = λ u n. elim (dec-eq u v) [
+    | inl e ↦ rw e (getD-set-same s v 0 0 h, getD-set-same w v 0 0 k)
+    | inr e ↦
+        let kept = noted .kept u n in
+        let before = cleared .counts u (rw (color-set-other colors v c u e) at n) in
+        (getD-set-other s v u 0 0 e ∙ (kept .0 ∙ before .0), getD-set-other w v u 0 0 e ∙ (kept .1 ∙ before .1))
+  ];
+}
 
 -- The mark of no colour changes nothing.
 pub none-taken : (colors : List ℕ) (v c : ℕ) → v < length colors → colorOf colors v ≡ noColor → c ≡ noColor → colors ≡ set colors v c
@@ -96,6 +108,7 @@ none-taken colors v c h e p = let q : getD colors v 0 ≡ c = color-read colors 
 pub record Ready (kind : Kind) (ends starts entries colors saturations waiting : List ℕ) : Type 0 where
   pub tabled : Tabled kind ends starts entries (length colors)
   pub counted : Counted (neighborsOf kind ends) (length colors) colors saturations waiting
+  pub cleared : Cleared colors saturations waiting
   pub saturations-room : length colors ≤ length saturations
   pub waiting-room : length colors ≤ length waiting
 
@@ -127,7 +140,8 @@ module _ (kind : Kind) (ends starts entries colors s₀ w₀ : List ℕ) (v c : 
       let counts = taken-counted (neighborsOf kind ends) (length colors) hood colors s₀ w₀ us v c refl (ready .counted) inside bare real (λ u d. around-times kind ends starts entries (length colors) (ready .tabled) v u inside d) m₀ s w m known noted in
       record {
         tabled = take-tabled;
-        counted = rw (length-set colors v c) (cleared (neighborsOf kind ends) (length colors) (set colors v c) s w v counts (λ e. real (sym (color-set-same colors v c inside) ∙ e)));
+        counted = rw (length-set colors v c) (clear-counted (neighborsOf kind ends) (length colors) (set colors v c) s w v counts (λ e. real (sym (color-set-same colors v c inside) ∙ e)));
+        cleared = clear-cleared colors us s₀ w₀ m₀ s w m v c (ready .cleared) noted (omega (arith, inside, ready .saturations-room)) (omega (arith, inside, ready .waiting-room));
         saturations-room = omega (arith, ready .saturations-room, length-set colors v c, length-set s v 0);
         waiting-room = omega (arith, ready .waiting-room, length-set colors v c, length-set w v 0);
       }

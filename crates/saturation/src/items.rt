@@ -4,6 +4,7 @@ ghost use Prim.Native.Nat.{_+_, _≤_, _<_};
 ghost use lib.ListN.{length};
 ghost use Rattle.graph.specs.Stretch.{stretch};
 ghost use Rattle.graph.specs.Colored.{noColor, colorOf, smallestFreeAt};
+ghost use Rattle.saturation.specs.Standing.{standsAt};
 ghost use Rattle.saturation.specs.Items.{firstNode, secondNode, acrossOf, ownOf, neighborsOf, Tabled, Within};
 use graph::Color;
 use graph::EdgeIndex;
@@ -102,4 +103,30 @@ pub(crate) fn free_color(
         Kind::Nodes => smallest_color(ends, starts, entries, colors, NodeIndex(item.0)),
         Kind::Edges => smallest_edge_color(ends, starts, entries, colors, EdgeIndex(item.0)),
     }
+}
+
+// Whether an edge at the node leads to an item that has the colour.
+pub(crate) fn stands_at(
+    kind: Kind,
+    ends: &[u16],
+    starts: &[u16],
+    entries: &[u16],
+    colors: &[u16],
+    node: NodeIndex,
+    color: Color,
+) -> bool
+    ensures { λ r. ⌜ r ≡ standsAt kind (now (ends .entry)) (now (colors .entry)) (color .0) (node .0) (stretch (now (starts .entry)) (now (entries .entry)) (node .0)) ⌝ }
+{
+    let edges = edges_at(starts, entries, node);
+    let mut i = 0;
+    while i < edges.len() {
+        let v = across(kind, ends, EdgeIndex(edges[i]), node).0 as usize;
+        i += 1;
+        if v < colors.len() {
+            if colors[v] == color.0 {
+                return true;
+            }
+        }
+    }
+    false
 }

@@ -6,7 +6,8 @@ ghost use Rattle.greedy.specs.Saturation.{saturationColors};
 ghost use Rattle.saturation.specs.Items.{neighborsOf, Tabled};
 ghost use Rattle.saturation.specs.Taken.{Ready};
 ghost use Rattle.saturation.specs.Start.{Preset};
-ghost use Rattle.saturation.specs.Choice.{FirstUncolored, leads, Chosen};
+ghost use Rattle.saturation.specs.Counts.{Cleared};
+ghost use Rattle.saturation.specs.Choice.{Greatest, All, With, Chosen};
 ghost use Rattle.saturation.specs.Turns.{turnOf};
 use crate::counts::start;
 use crate::counts::take_color;
@@ -21,55 +22,64 @@ pub enum Choice {
     Nothing,
 }
 
-// Whether an item goes before another by the two counts.
-fn goes_before(saturations: &[u16], waiting: &[u16], item: Item, other: Item) -> bool
-    requires { ⌜ (item .0 < length (now saturations)) × (other .0 < length (now saturations)) × (item .0 < length (now waiting)) × (other .0 < length (now waiting)) ⌝ }
-    ensures { λ r. ⌜ r ≡ leads (now (saturations .entry)) (now (waiting .entry)) (item .0) (other .0) ⌝ }
+// The greatest of the first `n` counts.
+fn greatest(counts: &[u16], n: usize) -> u16
+    requires { ⌜ n ≤ length (now counts) ⌝ }
+    ensures { λ r. ⌜ Greatest All (now (counts .entry)) n r ⌝ }
 {
-    let u = item.0 as usize;
-    let v = other.0 as usize;
-    if saturations[u] == saturations[v] {
-        return waiting[v] < waiting[u];
-    }
-    saturations[v] < saturations[u]
-}
-
-// The lowest item without a colour, or the number of items where each has one.
-fn first_uncolored(colors: &[u16]) -> usize
-    ensures { λ r. ⌜ (r ≤ length (now (colors .entry))) × FirstUncolored (now (colors .entry)) r ⌝ }
-{
+    let mut best = 0;
     let mut v = 0;
-    while v < colors.len() {
-        if colors[v] == Color::NONE {
-            return v;
-        }
+    while v < n {
+        let count = counts[v];
         v += 1;
+        if best < count {
+            best = count;
+        }
     }
-    v
+    best
 }
 
-// The lowest of the items without a colour that no other goes before. The counts are compared first: those of an item with a colour are 0,
-// so it goes before none.
-fn choose(colors: &[u16], saturations: &[u16], waiting: &[u16]) -> Choice
-    requires { ⌜ (length (now colors) ≤ 4096) × (length (now colors) ≤ length (now saturations)) × (length (now colors) ≤ length (now waiting)) ⌝ }
-    ensures { λ r. ⌜ Chosen (now (colors .entry)) (now (saturations .entry)) (now (waiting .entry)) r ⌝ }
+// The greatest waiting count of those of the first `n` items that have this saturation.
+fn greatest_among(saturations: &[u16], saturation: u16, waiting: &[u16], n: usize) -> u16
+    requires { ⌜ (n ≤ length (now saturations)) × (n ≤ length (now waiting)) ⌝ }
+    ensures { λ r. ⌜ Greatest (With (now (saturations .entry)) saturation) (now (waiting .entry)) n r ⌝ }
 {
-    let first = first_uncolored(colors);
-    if first == colors.len() {
-        return Choice::Nothing;
-    }
-    let mut best = first;
-    let mut v = first + 1;
-    while v < colors.len() {
-        let item = v;
+    let mut best = 0;
+    let mut v = 0;
+    while v < n {
+        let own = saturations[v];
+        let count = waiting[v];
         v += 1;
-        if goes_before(saturations, waiting, Item(item as u16), Item(best as u16)) {
-            if colors[item] == Color::NONE {
-                best = item;
+        if own == saturation {
+            if best < count {
+                best = count;
             }
         }
     }
-    Choice::Next(Item(best as u16))
+    best
+}
+
+// The lowest of the items without a colour that no other goes before. The counts of an item with a colour are 0, so it hides none without.
+fn choose(colors: &[u16], saturations: &[u16], waiting: &[u16]) -> Choice
+    requires { ⌜ (length (now colors) ≤ 4096) × (length (now colors) ≤ length (now saturations)) × (length (now colors) ≤ length (now waiting)) ⌝ }
+    requires { ⌜ Cleared (now colors) (now saturations) (now waiting) ⌝ }
+    ensures { λ r. ⌜ Chosen (now (colors .entry)) (now (saturations .entry)) (now (waiting .entry)) r ⌝ }
+{
+    let most = greatest(saturations, colors.len());
+    let longest = greatest_among(saturations, most, waiting, colors.len());
+    let mut next = 0;
+    while next < colors.len() {
+        let item = next;
+        next += 1;
+        if saturations[item] == most {
+            if waiting[item] == longest {
+                if colors[item] == Color::NONE {
+                    return Choice::Next(Item(item as u16));
+                }
+            }
+        }
+    }
+    Choice::Nothing
 }
 
 // One turn: the chosen item takes the smallest colour that no neighbour has.

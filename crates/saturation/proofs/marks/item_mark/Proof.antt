@@ -1,20 +1,41 @@
--- `item_mark` meets its contract: the first node's mark, or else the second's.
+-- `item_mark` meets its contract: the item has a colour, or its nodes are asked, one after the other.
+use native.Mathlib.Omega.{arith}
 use borrow.Author.Needs.{needs}
-use Rattle.saturation.specs.Touched.{mark-first, mark-second}
+use Rattle.saturation.specs.Known.{mark-colored, mark-first, mark-second, mark-neither}
 use Rattle.saturation.proofs.marks.item_mark.Statement.{statement}
 use Rattle.saturation.proofs.marks.item_mark.Tie as tie
 
 returns : tie.Need-returns
-returns c = search (needs, mark-first)
+returns c = (mark-colored _ _ _ _ _ _ _ (c .before .before .before .before .before .before .before .before .pre .0 .item) (c .if1 .taken), c .before .before .before .before .before .before .before .before .pre .1)
+
+ask-requires : tie.Need-ask-requires
+ask-requires c κs = (omega (arith, c .before .first-node .ensures, c .before .before .before .before .before .before .before .before .before .before .pre .0 .first), c .before .before .before .before .before .before .before .before .before .before .pre .1)
 
 returns-2 : tie.Need-returns-2
-returns-2 c = search (needs, mark-second)
+returns-2 c = (mark-first _ _ _ _ _ _ _ (c .before .before .before .before .before .before .before .before .before .before .before .before .before .before .pre .0 .item) (c .before .before .before .before .before .before .if1 .left) _ (c .before .before .before .before .before .first-node .ensures) _ (c .before .before .before .ask .ensures .0) (c .if2 .taken), c .before .before .before .ask .ensures .1)
+
+ask-requires-2 : tie.Need-ask-requires-2
+ask-requires-2 c κs = (omega (arith, c .before .second-node .ensures, c .before .before .before .before .before .before .before .before .before .before .before .before .before .before .before .before .pre .0 .second, c .before .before .before .before .before .ask .kept .1 .1 .1 .1 .1 .1 .0), c .before .before .before .before .before .ask .ensures .1)
+
+returns-3 : tie.Need-returns-3
+returns-3 c = (mark-second _ _ _ _ _ _ _ (c .before .before .before .before .before .before .before .before .before .before .before .before .before .before .before .before .before .before .before .before .pre .0 .item) (c .before .before .before .before .before .before .before .before .before .before .before .before .if1 .left) _ (c .before .before .before .before .before .before .before .before .before .before .before .first-node .ensures) _ (c .before .before .before .before .before .before .before .before .before .ask .ensures .0) _ (c .before .before .before .before .before .second-node .ensures) _ (c .before .before .before .ask2 .ensures .0) (c .before .before .before .before .before .before .if2 .left) (c .if3 .taken), c .before .before .before .ask2 .ensures .1)
+
+returns-4 : tie.Need-returns-4
+returns-4 c = (mark-neither _ _ _ _ _ _ _ (c .before .before .before .before .before .before .before .before .before .before .before .before .before .before .before .before .before .before .before .before .pre .0 .item) (c .before .before .before .before .before .before .before .before .before .before .before .before .if1 .left) _ (c .before .before .before .before .before .before .before .before .before .before .before .first-node .ensures) _ (c .before .before .before .before .before .before .before .before .before .ask .ensures .0) _ (c .before .before .before .before .before .second-node .ensures) _ (c .before .before .before .ask2 .ensures .0) (c .before .before .before .before .before .before .if2 .left) (c .if3 .left), c .before .before .before .ask2 .ensures .1)
 
 pub item-mark-spec : {M : Type 1} → statement M
 item-mark-spec =
     tie.close
     (tie.spec
-    (λ c κs. search needs) (λ c. search needs) (λ c. search needs) (λ c. search needs)
+    (λ c. search needs) (λ c. search needs) (λ c. search needs)
     returns
-    (λ c κs. search needs) (λ c. search needs) (λ c. search needs)
-    returns-2)
+    (λ c κs. search needs)
+    ask-requires
+    (λ c. search needs)
+    returns-2
+    (λ c κs. search needs)
+    ask-requires-2
+    (λ c. search needs)
+    returns-3
+    (λ c. search needs)
+    returns-4)

@@ -6,7 +6,7 @@ use Rattle.saturation.proofs.turns.turn.Statement.{statement}
 use Rattle.saturation.proofs.turns.turn.Tie as tie
 
 choose-requires : tie.Need-choose-requires
-choose-requires c κs = let p = c .before .before .before .before .before .before .before .before .before .pre in (items-few _ _ _ (p .tabled .sized), p .saturations-room, p .waiting-room)
+choose-requires c κs = let p = c .before .before .before .before .before .before .before .before .before .pre in ((items-few _ _ _ (p .tabled .sized), p .saturations-room, p .waiting-room), p .cleared)
 
 free-color-requires : tie.Need-free-color-requires
 free-color-requires c κs =
