@@ -16,9 +16,9 @@ use Rattle.graph.specs.EdgeLaws.{edge-at}
 use Rattle.graph.specs.NeighborLaws.{neighbors-far-ends}
 use Rattle.graph.specs.Stretch.{stretch}
 use Rattle.line_graph.specs.LineNeighborLaws.{line-neighbor-times, line-neighbor-times-loop}
-use Rattle.saturation.specs.declared.items.Kind.{Kind}
-use Rattle.saturation.specs.declared.items.Kind.the-variants.{Nodes, Edges}
-use Rattle.saturation.specs.Items.{firstNode, secondNode, acrossOf, neighborsOf, Tabled, first-inside, second-inside, across-inside}
+use Rattle.items.specs.declared.Kind.{Kind}
+use Rattle.items.specs.declared.Kind.the-variants.{Nodes, Edges}
+use Rattle.items.specs.Items.{firstNode, secondNode, acrossOf, neighborsOf, Tabled, first-inside, second-inside, across-inside}
 use Rattle.saturation.specs.Notes.{Noted, Room, acrossAll, noted-more, room-first, room-left}
 
 module _ (kind : Kind) (ends starts entries : List ℕ) where

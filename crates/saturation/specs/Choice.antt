@@ -16,7 +16,7 @@ use Rattle.graph.specs.ColoredLaws.{color-read}
 use Rattle.greedy.specs.Turn.{uncolored}
 use Rattle.greedy.specs.UncoloredLaws.{last-colored, last-uncolored, uncolored-member}
 use Rattle.greedy.specs.Saturation.{greater, greatest}
-use Rattle.saturation.specs.declared.items.Item.{Item}
+use Rattle.items.specs.declared.Item.{Item}
 use Rattle.saturation.specs.declared.turns.Choice.{Choice}
 use Rattle.saturation.specs.declared.turns.Choice.the-variants.{Next, Nothing}
 use Rattle.saturation.specs.Counts.{Counted, Cleared}

@@ -15,9 +15,9 @@ use Rattle.graph.specs.EdgeLaws.{at-edge, edge-at}
 use Rattle.graph.specs.Stretch.{stretch}
 use Rattle.graph.specs.Colored.{noColor, colorOf, isColored}
 use Rattle.graph.specs.ColoredLaws.{color-read, colored-true, uncolored-false}
-use Rattle.saturation.specs.declared.items.Kind.{Kind}
-use Rattle.saturation.specs.Items.{firstNode, secondNode, acrossOf, neighborsOf, Sized, Tabled, items-few, nodes-room, across-inside, first-inside, second-inside, NodeOf, neighbor-leading, leading-neighbor}
-use Rattle.saturation.specs.Standing.{standsAt, stands-item, item-stands}
+use Rattle.items.specs.declared.Kind.{Kind}
+use Rattle.items.specs.Items.{firstNode, secondNode, acrossOf, neighborsOf, Sized, Tabled, items-few, nodes-room, across-inside, first-inside, second-inside, NodeOf, neighbor-leading, leading-neighbor}
+use Rattle.items.specs.Standing.{standsAt, stands-item, item-stands}
 use Rattle.saturation.specs.Counts.{colorsAmong, color-among, among-color}
 use Rattle.saturation.specs.Notes.{acrossAll}
 use Rattle.saturation.specs.Around.{along, around, around-one, around-two, first-across, second-across}

@@ -1,6 +1,4 @@
 -- Strategy Saturation with counts that are kept up to date.
-pub mod Items
-pub mod Standing
 pub mod Counts
 pub mod Notes
 pub mod Stored

@@ -12,8 +12,8 @@ use Rattle.lists.specs.Tests.{dec-eq}
 use Rattle.lists.specs.Different.{count, count-append, count-here, count-there, count-none}
 use Rattle.graph.specs.Colored.{noColor, colorOf}
 use Rattle.graph.specs.ColoredLaws.{color-read}
-use Rattle.saturation.specs.declared.items.Kind.{Kind}
-use Rattle.saturation.specs.Items.{acrossOf}
+use Rattle.items.specs.declared.Kind.{Kind}
+use Rattle.items.specs.Items.{acrossOf}
 
 -- An item's counts and mark, before and after it has noted the colour `times` times: it waits for as many fewer, and the colour is new to it unless the mark stood.
 pub record NotedTimes (times saturation₀ waiting₀ mark₀ saturation waiting mark : ℕ) : Type 0 where

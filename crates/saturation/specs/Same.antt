@@ -15,9 +15,9 @@ use Rattle.greedy.specs.Turn.{uncolored, colorItem}
 use Rattle.greedy.specs.UncoloredLaws.{uncolored-member}
 use Rattle.greedy.specs.Saturation.{saturation, uncoloredNeighbors, greater, greatest, saturationFrom, saturationColors}
 use Rattle.greedy.specs.SaturationLaws.{greatest-member}
-use Rattle.saturation.specs.declared.items.Kind.{Kind}
-use Rattle.saturation.specs.declared.items.Kind.the-variants.{Nodes, Edges}
-use Rattle.saturation.specs.Items.{itemsOf, neighborsOf, Tabled}
+use Rattle.items.specs.declared.Kind.{Kind}
+use Rattle.items.specs.declared.Kind.the-variants.{Nodes, Edges}
+use Rattle.items.specs.Items.{itemsOf, neighborsOf, Tabled}
 
 -- The neighbours as the definition has them.
 abbrev pub listNeighbors : Kind → ℕ → List ℕ → ℕ → List ℕ

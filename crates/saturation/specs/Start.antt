@@ -13,8 +13,8 @@ use Rattle.lists.specs.Different.{different, different-none}
 use Rattle.graph.specs.Colored.{noColor, colorOf, coloredAmong}
 use Rattle.graph.specs.ColoredLaws.{color-outside, color-read, color-set-same, color-set-other, uncolored-false}
 use Rattle.greedy.specs.Saturation.{uncoloredAmong}
-use Rattle.saturation.specs.declared.items.Kind.{Kind}
-use Rattle.saturation.specs.Items.{neighborsOf, Tabled, items-few, neighborhood}
+use Rattle.items.specs.declared.Kind.{Kind}
+use Rattle.items.specs.Items.{neighborsOf, Tabled, items-few, neighborhood}
 use Rattle.saturation.specs.Counts.{Counted, colorsAmong}
 use Rattle.saturation.specs.Taken.{Ready, saturation-among, waiting-among}
 

@@ -7,8 +7,8 @@ use native.Mathlib.Omega.{arith}
 use lib.ListN.{length, getD, take, set, length-set}
 use lib.Seq.{take-length, getD-set-same, getD-set-other}
 use Rattle.lists.specs.Member.{Mem, dec-mem}
-use Rattle.saturation.specs.declared.items.Kind.{Kind}
-use Rattle.saturation.specs.Items.{acrossOf}
+use Rattle.items.specs.declared.Kind.{Kind}
+use Rattle.items.specs.Items.{acrossOf}
 use Rattle.saturation.specs.Notes.{acrossAll, across-more}
 
 module _ (f : ℕ → ℕ) where

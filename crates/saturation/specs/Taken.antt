@@ -12,8 +12,8 @@ use Rattle.graph.specs.Colored.{noColor, colorOf}
 use Rattle.graph.specs.ColoredLaws.{color-read, color-set-same, color-set-other}
 use Rattle.greedy.specs.Greedy.{Neighborhood}
 use Rattle.greedy.specs.Saturation.{saturation, uncoloredNeighbors, uncoloredAmong}
-use Rattle.saturation.specs.declared.items.Kind.{Kind}
-use Rattle.saturation.specs.Items.{neighborsOf, Tabled, neighborhood}
+use Rattle.items.specs.declared.Kind.{Kind}
+use Rattle.items.specs.Items.{neighborsOf, Tabled, neighborhood}
 use Rattle.saturation.specs.Counts.{Counted, Cleared, colorsAmong, count-mem, mem-count, different-few, uncolored-falls, different-stays, different-grows}
 use Rattle.saturation.specs.Notes.{Noted, Room}
 use Rattle.saturation.specs.Known.{Known}

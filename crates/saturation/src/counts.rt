@@ -5,22 +5,22 @@ ghost use mathlib.Core.List.{[], _∷_};
 ghost use Prim.Native.Nat.{ℕ, _≤_, _<_};
 ghost use lib.ListN.{length, getD, set};
 ghost use Rattle.graph.specs.Colored.{noColor, colorOf};
-ghost use Rattle.saturation.specs.Items.{acrossOf, neighborsOf, Tabled};
+ghost use Rattle.items.specs.Items.{acrossOf, neighborsOf, Tabled};
 ghost use Rattle.saturation.specs.Notes.{Noted, Room, acrossAll};
 ghost use Rattle.saturation.specs.Around.{around};
 ghost use Rattle.saturation.specs.Taken.{Ready};
 ghost use Rattle.saturation.specs.Start.{Started};
-use crate::items::Item;
-use crate::items::Kind;
-use crate::items::across;
-use crate::items::first_node;
-use crate::items::neighbor_count;
-use crate::items::second_node;
 use crate::marks::mark_known;
 use graph::Color;
 use graph::EdgeIndex;
 use graph::NodeIndex;
 use graph::edges_at;
+use items::Item;
+use items::Kind;
+use items::across;
+use items::first_node;
+use items::neighbor_count;
+use items::second_node;
 
 // Before any item has a colour: each waits for all its neighbours.
 pub(crate) fn start(

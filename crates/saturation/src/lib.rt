@@ -6,7 +6,7 @@ ghost use Rattle.graph.specs.CheckLaws.{Passed};
 ghost use Rattle.graph.specs.Color.{daysOf};
 ghost use Rattle.greedy.specs.Saturation.{saturationColors};
 ghost use Rattle.greedy.specs.Call.{greedyNodes, greedyEdges};
-ghost use Rattle.saturation.specs.Items.{itemsOf};
+ghost use Rattle.items.specs.Items.{itemsOf};
 ghost use Rattle.saturation.specs.Same.{listNeighbors};
 use graph::Checked;
 use graph::Coloring;
@@ -18,7 +18,6 @@ use items::Kind;
 use turns::run;
 
 mod counts;
-mod items;
 mod marks;
 mod turns;
 

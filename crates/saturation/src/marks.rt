@@ -4,21 +4,21 @@ ghost use mathlib.Core.Path.{_≡_};
 ghost use Prim.Native.Nat.{ℕ, _≤_, _<_};
 ghost use lib.ListN.{length, getD};
 ghost use Rattle.graph.specs.Colored.{noColor};
-ghost use Rattle.saturation.specs.Items.{acrossOf, neighborsOf, Tabled};
+ghost use Rattle.items.specs.Items.{acrossOf, neighborsOf, Tabled};
 ghost use Rattle.saturation.specs.Notes.{acrossAll};
 ghost use Rattle.saturation.specs.Around.{around};
 ghost use Rattle.saturation.specs.Stored.{stored};
 ghost use Rattle.saturation.specs.Known.{stands, markOf, Asked, Placed, Known};
-use crate::items::Item;
-use crate::items::Kind;
-use crate::items::across;
-use crate::items::first_node;
-use crate::items::second_node;
-use crate::items::stands_at;
 use graph::Color;
 use graph::EdgeIndex;
 use graph::NodeIndex;
 use graph::edges_at;
+use items::Item;
+use items::Kind;
+use items::across;
+use items::first_node;
+use items::second_node;
+use items::stands_at;
 
 // Whether the colour stands at the node, and a note of the answer.
 fn ask(

@@ -3,7 +3,7 @@ ghost use mathlib.Core.Path.{_≡_};
 ghost use Prim.Native.Nat.{_≤_, _<_};
 ghost use lib.ListN.{length, replicate};
 ghost use Rattle.greedy.specs.Saturation.{saturationColors};
-ghost use Rattle.saturation.specs.Items.{neighborsOf, Tabled};
+ghost use Rattle.items.specs.Items.{neighborsOf, Tabled};
 ghost use Rattle.saturation.specs.Taken.{Ready};
 ghost use Rattle.saturation.specs.Start.{Preset};
 ghost use Rattle.saturation.specs.Counts.{Cleared};
@@ -11,10 +11,10 @@ ghost use Rattle.saturation.specs.Choice.{Greatest, All, With, Chosen};
 ghost use Rattle.saturation.specs.Turns.{turnOf};
 use crate::counts::start;
 use crate::counts::take_color;
-use crate::items::Item;
-use crate::items::Kind;
-use crate::items::free_color;
 use graph::Color;
+use items::Item;
+use items::Kind;
+use items::free_color;
 
 // The item whose turn it is, or that all items have a colour.
 pub enum Choice {

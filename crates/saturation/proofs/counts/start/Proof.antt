@@ -5,7 +5,7 @@ use native.Mathlib.Omega.{arith}
 use lib.ListN.{length}
 use borrow.Author.Needs.{needs}
 use Rattle.saturation.specs.Start.{Started, started-none, started-more, started-all, neighbors-few}
-use Rattle.saturation.specs.Items.{neighborsOf, items-few}
+use Rattle.items.specs.Items.{neighborsOf, items-few}
 use Rattle.saturation.proofs.counts.start.Statement.{statement}
 use Rattle.saturation.proofs.counts.start.Tie as tie
 
@@ -21,17 +21,14 @@ loop-holds c = search (needs, started-none)
 cast-waiting : tie.Need-cast-waiting Inv-loop μ-loop
 cast-waiting c = omega (arith, c .loop-test .taken, c .before .loop .inv .1, items-few _ _ _ (c .before .before .before .before .before .before .before .pre .0 .sized))
 
-neighbor-count-requires : tie.Need-neighbor-count-requires Inv-loop μ-loop
-neighbor-count-requires c κs = record { items = _; tabled = c .before .before .before .before .before .before .before .pre .0; inside = omega (arith, c .loop-test .taken, c .before .loop .inv .1) }
-
 cast-waiting-2 : tie.Need-cast-waiting-2 Inv-loop μ-loop
-cast-waiting-2 c = omega (arith, neighbors-few _ _ _ _ _ (c .before .before .before .before .before .before .before .before .pre .0) _ _ (omega (arith, c .before .loop-test .taken, c .before .before .loop .inv .1)) (c .neighbor-count .ensures))
+cast-waiting-2 c = omega (arith, neighbors-few _ _ _ _ _ (c .before .before .before .before .before .before .before .before .pre .0) _ _ (omega (arith, c .before .loop-test .taken, c .before .before .loop .inv .1)) (c .neighbor-count .ensures (record { items = _; tabled = c .before .before .before .before .before .before .before .before .pre .0; inside = omega (arith, c .before .loop-test .taken, c .before .before .loop .inv .1) })))
 
 loop-less : tie.Need-loop-less Inv-loop μ-loop
 loop-less c = omega (arith, c .before .loop-test .taken, c .before .before .loop .inv .1)
 
 loop-again : tie.Need-loop-again Inv-loop μ-loop
-loop-again c = (omega (arith, c .before .loop-test .taken, c .before .before .loop .inv .1), search needs, search needs, started-more _ _ _ _ _ (c .before .before .loop .inv .3) (c .before .loop-test .taken) (omega (arith, c .before .loop-test .taken, c .before .before .loop .inv .1, c .before .before .loop .inv .2, c .before .before .before .before .before .before .before .before .pre .1)) (c .neighbor-count .ensures))
+loop-again c = (omega (arith, c .before .loop-test .taken, c .before .before .loop .inv .1), search needs, search needs, started-more _ _ _ _ _ (c .before .before .loop .inv .3) (c .before .loop-test .taken) (omega (arith, c .before .loop-test .taken, c .before .before .loop .inv .1, c .before .before .loop .inv .2, c .before .before .before .before .before .before .before .before .pre .1)) (c .neighbor-count .ensures (record { items = _; tabled = c .before .before .before .before .before .before .before .before .pre .0; inside = omega (arith, c .before .loop-test .taken, c .before .before .loop .inv .1) })))
 
 returns : tie.Need-returns Inv-loop μ-loop
 returns c = started-all _ _ _ _ _ (c .before .loop .inv .3) (c .before .loop .inv .0) (omega (arith, c .loop-test .left, c .before .loop .inv .1))
@@ -44,8 +41,7 @@ start-spec =
     μ-loop
     loop-holds
     cast-waiting
-    neighbor-count-requires
-    (λ c. search needs) (λ c. search needs)
+    (λ c κs. search needs) (λ c. search needs) (λ c. search needs)
     cast-waiting-2
     (λ c. search needs) (λ c. search needs) (λ c. search needs)
     loop-less

@@ -3,7 +3,7 @@ use mathlib.Core.Path.{refl}
 use native.Mathlib.Omega.{arith}
 use borrow.Author.Needs.{needs}
 use Rattle.saturation.specs.Taken.{none-taken, take-tabled, take-inside, take-room, take-sizes, take-ready}
-use Rattle.saturation.specs.Items.{items-few}
+use Rattle.items.specs.Items.{items-few}
 use Rattle.saturation.proofs.counts.take_color.Statement.{statement}
 use Rattle.saturation.proofs.counts.take_color.Tie as tie
 

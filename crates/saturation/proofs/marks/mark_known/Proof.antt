@@ -1,7 +1,7 @@
 -- `mark_known` meets its contract: the items at one node get their marks, or at two, and marked are those that know the colour.
 use native.Mathlib.Omega.{arith}
 use borrow.Author.Needs.{needs}
-use Rattle.saturation.specs.Items.{items-few}
+use Rattle.items.specs.Items.{items-few}
 use Rattle.saturation.specs.Known.{asked-none, first-placed, second-placed, around-stored, both-stored, known}
 use Rattle.saturation.proofs.marks.mark_known.Statement.{statement}
 use Rattle.saturation.proofs.marks.mark_known.Tie as tie

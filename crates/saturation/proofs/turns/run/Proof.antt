@@ -3,7 +3,7 @@ use mathlib.Core.Path.{sym, ap, _∙_}
 use native.Mathlib.Omega.{arith}
 use lib.ListN.{length}
 use borrow.Author.Needs.{needs}
-use Rattle.saturation.specs.Items.{items-few}
+use Rattle.items.specs.Items.{items-few}
 use Rattle.saturation.specs.Start.{started-ready, preset-none}
 use Rattle.saturation.specs.Turns.{from-presets}
 use Rattle.saturation.proofs.turns.run.Statement.{statement}

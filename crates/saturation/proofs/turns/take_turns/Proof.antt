@@ -5,7 +5,7 @@ use native.Mathlib.Omega.{arith}
 use lib.ListN.{length}
 use borrow.Author.Needs.{needs}
 use Rattle.greedy.specs.Saturation.{saturationFrom, saturationColors}
-use Rattle.saturation.specs.Items.{neighborsOf}
+use Rattle.items.specs.Items.{neighborsOf}
 use Rattle.saturation.specs.Taken.{Ready}
 use Rattle.saturation.specs.Turns.{turn-size, turns-none, turns-more, turns-all}
 use Rattle.saturation.proofs.turns.take_turns.Statement.{statement}

@@ -1,17 +1,12 @@
 -- `turn` meets its contract: the chosen item takes the smallest free colour.
 use borrow.Author.Needs.{needs}
-use Rattle.saturation.specs.Items.{items-few}
+use Rattle.items.specs.Items.{items-few}
 use Rattle.saturation.specs.Turns.{turn-none, turn-chosen}
 use Rattle.saturation.proofs.turns.turn.Statement.{statement}
 use Rattle.saturation.proofs.turns.turn.Tie as tie
 
 choose-requires : tie.Need-choose-requires
 choose-requires c κs = let p = c .before .before .before .before .before .before .before .before .before .pre in ((items-few _ _ _ (p .tabled .sized), p .saturations-room, p .waiting-room), p .cleared)
-
-free-color-requires : tie.Need-free-color-requires
-free-color-requires c κs =
-    let l = c .before .before .before .before .choose .ensures .next _ (c .before .before .item .given .1) in
-    (c .before .before .before .before .before .before .before .before .before .before .before .before .before .before .pre .tabled, (l .inside, l .bare))
 
 take-color-requires : tie.Need-take-color-requires
 take-color-requires c κs =
@@ -26,15 +21,14 @@ returns-2 c =
     let p = c .before .before .before .before .before .before .before .before .before .before .before .before .before .before .before .before .before .before .before .before .before .before .before .before .before .pre in
     let l = c .before .before .before .before .before .before .before .before .before .before .before .before .before .before .before .choose .ensures .next _ (c .before .before .before .before .before .before .before .before .before .before .before .before .before .item .given .1) in
     let e = c .before .before .before .before .before .before .take-color .ensures in
-    (turn-chosen _ _ _ _ _ _ _ _ (p .counted) l (c .before .before .before .before .before .before .before .before .before .before .free-color .ensures) (e .0), e .1)
+    (turn-chosen _ _ _ _ _ _ _ _ (p .counted) l (c .before .before .before .before .before .before .before .before .before .before .free-color .ensures (p .tabled) (l .inside) (l .bare)) (e .0), e .1)
 
 pub turn-spec : {M : Type 1} → statement M
 turn-spec =
     tie.close
     (tie.spec
     choose-requires
-    (λ c. search needs) (λ c. search needs)
-    free-color-requires
+    (λ c. search needs) (λ c. search needs) (λ c κs. search needs)
     take-color-requires
     (λ c. search needs) (λ c. search needs) (λ c. search needs)
     returns

@@ -1,8 +1,8 @@
 -- `second_node` meets its contract: a node itself, or an edge's second end.
 use borrow.Author.Needs.{needs}
-use Rattle.saturation.specs.Items.{node-second, edge-second}
-use Rattle.saturation.proofs.items.second_node.Statement.{statement}
-use Rattle.saturation.proofs.items.second_node.Tie as tie
+use Rattle.items.specs.Items.{node-second, edge-second}
+use Rattle.items.proofs.second_node.Statement.{statement}
+use Rattle.items.proofs.second_node.Tie as tie
 
 returns : tie.Need-returns
 returns c = search (needs, node-second)

@@ -1,8 +1,8 @@
 -- `first_node` meets its contract: a node itself, or an edge's first end.
 use borrow.Author.Needs.{needs}
-use Rattle.saturation.specs.Items.{node-first, edge-first}
-use Rattle.saturation.proofs.items.first_node.Statement.{statement}
-use Rattle.saturation.proofs.items.first_node.Tie as tie
+use Rattle.items.specs.Items.{node-first, edge-first}
+use Rattle.items.proofs.first_node.Statement.{statement}
+use Rattle.items.proofs.first_node.Tie as tie
 
 returns : tie.Need-returns
 returns c = search (needs, node-first)

@@ -13,8 +13,8 @@ use Rattle.lists.specs.Tests.{and-true, and-false, or-true, true-or}
 use Rattle.lists.specs.Member.{Mem}
 use Rattle.graph.specs.Colored.{colorOf}
 use Rattle.graph.specs.ColoredLaws.{color-read}
-use Rattle.saturation.specs.declared.items.Kind.{Kind}
-use Rattle.saturation.specs.Items.{acrossOf}
+use Rattle.items.specs.declared.Kind.{Kind}
+use Rattle.items.specs.Items.{acrossOf}
 
 -- Whether item v has colour c. Beyond the list there is none.
 unfoldable pub hasColor : List ℕ → ℕ → ℕ → Bool

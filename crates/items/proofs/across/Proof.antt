@@ -1,8 +1,8 @@
 -- `across` meets its contract: the far end, or the edge itself.
 use borrow.Author.Needs.{needs}
-use Rattle.saturation.specs.Items.{node-across, edge-across}
-use Rattle.saturation.proofs.items.across.Statement.{statement}
-use Rattle.saturation.proofs.items.across.Tie as tie
+use Rattle.items.specs.Items.{node-across, edge-across}
+use Rattle.items.proofs.across.Statement.{statement}
+use Rattle.items.proofs.across.Tie as tie
 
 returns : tie.Need-returns
 returns c = search (needs, node-across)

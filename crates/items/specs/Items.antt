@@ -4,7 +4,11 @@ use mathlib.Core.Path.{_≡_, refl, sym, ap, subst, _∙_}
 use mathlib.Core.Logic.{_⊎_, inl, inr, _≢_}
 use mathlib.Core.List.{List, _∷_, _++_}
 use native.Mathlib.Omega.{arith}
-use lib.ListN.{length, getD}
+use lib.ListN.{length, getD, drop, length-drop}
+use lib.Seq.{length-take-le}
+use lib.Dec.{ltb, leb}
+use borrow.Author.Tests.{leb-true}
+use Rattle.lists.specs.Tests.{by-test}
 use Rattle.lists.specs.Member.{Mem}
 use Rattle.graph.specs.CheckLaws.{Passed, passed-inside}
 use Rattle.graph.specs.Edges.{edgeCount, firstEnd, secondEnd, farEnd, edgesAt, degree, neighbors}
@@ -20,8 +24,8 @@ use Rattle.graph.specs.Colored.{noColor, colorOf, smallestFreeAt}
 use Rattle.greedy.specs.GreedyLaws.{node-neighborhood, edge-neighbors}
 use Rattle.greedy.specs.Marks.{farColors, smallest-color-node}
 use Rattle.greedy.specs.EdgeMarks.{colorsOf, smallest-color-edge}
-use Rattle.saturation.specs.declared.items.Kind.{Kind}
-use Rattle.saturation.specs.declared.items.Kind.the-variants.{Nodes, Edges}
+use Rattle.items.specs.declared.Kind.{Kind}
+use Rattle.items.specs.declared.Kind.the-variants.{Nodes, Edges}
 
 -- How many items a graph of n nodes has.
 abbrev pub itemsOf : Kind → ℕ → List ℕ → ℕ
@@ -95,17 +99,17 @@ pub edge-across : (kind : Kind) (ends : List ℕ) (k w : ℕ) → kind ≡ Edges
 unfolding acrossOf
 edge-across kind ends k w q = rw q
 
-pub node-count-at : (kind : Kind) (edges at : List ℕ) → kind ≡ Nodes → edges ≡ at → length edges + ownOf kind ≡ length at
-unfolding ownOf
-node-count-at kind edges at k e = rw k (omega (arith, ap length e))
+module _ (kind : Kind) (edges at : List ℕ) (e : edges ≡ at) where
+  pub count-none : length edges ≡ 0 → 0 ≡ length at - ownOf kind
+  count-none z = omega (arith, ap length e)
 
-pub edge-count-room : (kind : Kind) (edges at : List ℕ) → kind ≡ Edges → edges ≡ at → ownOf kind ≤ length at → 1 ≤ length edges
-unfolding ownOf
-edge-count-room kind edges at k e h = let z : 1 ≤ length at = rw k at h in omega (arith, ap length e)
+  pub node-count-at : kind ≡ Nodes → length edges ≡ length at - ownOf kind
+  unfolding ownOf
+  node-count-at k = rw k (omega (arith, ap length e))
 
-pub edge-count-at : (kind : Kind) (edges at : List ℕ) → kind ≡ Edges → edges ≡ at → ownOf kind ≤ length at → (length edges - 1) + ownOf kind ≡ length at
-unfolding ownOf
-edge-count-at kind edges at k e h = let z : 1 ≤ length at = rw k at h in rw k (omega (arith, ap length e))
+  pub edge-count-at : kind ≡ Edges → length edges - 1 ≡ length at - ownOf kind
+  unfolding ownOf
+  edge-count-at k = rw k (omega (arith, ap length e))
 
 -- ---- a graph that passed
 
@@ -181,35 +185,43 @@ leading-neighbor Edges ends items sized v u h n l =
 
 -- ---- how many
 
-member-length : (k : ℕ) (ks : List ℕ) → Mem k ks → 1 ≤ length ks
-member-length k (j ∷ ks) p = omega arith
+stretch-short : (starts entries : List ℕ) (v : ℕ) → length (stretch starts entries v) ≤ length entries
+unfolding stretch
+stretch-short starts entries v =
+    let from = getD starts v 0 in
+    let to = getD starts (v + 1) 0 in
+    by-test (ltb (v + 1) (length starts))
+    (λ p. by-test (leb from to)
+    (λ q. by-test (leb to (length entries))
+    (λ t. let h = leb-true to (length entries) t in rw (p, q, t) (omega (arith, length-take-le (to - from) (drop from entries) (omega (arith, length-drop from entries, leb-true from to q, h)), h)))
+    (λ t. rw (p, q, t) (omega arith)))
+    (λ q. rw (p, q) (omega arith)))
+    (λ p. rw p (omega arith))
+
+-- The edges at two nodes are not too many to count.
+pub counts-fit : (kind : Kind) (starts entries : List ℕ) (a b r s : ℕ) → length entries * 2 < 9223372036854775808
+    → r ≡ length (stretch starts entries a) - ownOf kind → s ≡ length (stretch starts entries b) - ownOf kind → r + s < 18446744073709551616
+counts-fit kind starts entries a b r s few x y = omega (arith, stretch-short starts entries a, stretch-short starts entries b)
 
 module _ (ends starts entries : List ℕ) where
   stretch-degree : (n v : ℕ) → Table ends n starts entries → v < n → length (stretch starts entries v) ≡ degree ends (edgeCount ends) v
   unfolding degree
   stretch-degree n v table h = ap length (table .row v h)
 
-  -- An edge of the graph, and its ends.
+  -- An edge of the graph.
   edge-within : (v : ℕ) → Within Edges ends starts entries v → v < edgeCount ends
   edge-within v w = omega (arith, w .inside, w .tabled .sized .size)
 
+  -- It stands among the edges at its ends.
   own-at : (v a n : ℕ) → v < edgeCount ends → Table ends n starts entries → a < n → At ends v a → 1 ≤ length (stretch starts entries a)
   own-at v a n h table b p = rw (table .row a b) (member-length v (edgesAt ends (edgeCount ends) a) (at-edge ends (edgeCount ends) a v h p))
-
-  -- An edge stands among the edges at its nodes.
-  pub own-first : (kind : Kind) (v a : ℕ) → Within kind ends starts entries v → a ≡ firstNode kind ends v → ownOf kind ≤ length (stretch starts entries a)
-  unfolding ownOf firstNode
-  own-first Nodes v a w e = omega arith
-  own-first Edges v a w e = let t = w .tabled in own-at v a (t .sized .nodes) (edge-within v w) (t .table) (rw e (first-inside Edges ends (w .items) (t .sized) v (w .inside))) (inl (sym e))
-
-  pub own-second : (kind : Kind) (v a : ℕ) → Within kind ends starts entries v → a ≡ secondNode kind ends v → ownOf kind ≤ length (stretch starts entries a)
-  unfolding ownOf secondNode
-  own-second Nodes v a w e = omega arith
-  own-second Edges v a w e = let t = w .tabled in own-at v a (t .sized .nodes) (edge-within v w) (t .table) (rw e (second-inside Edges ends (w .items) (t .sized) v (w .inside))) (inr (sym e))
+    where
+      member-length : (k : ℕ) (ks : List ℕ) → Mem k ks → 1 ≤ length ks
+      member-length k (j ∷ ks) q = omega arith
 
   -- The neighbours of an item whose two nodes are one,
   pub neighbors-one : (kind : Kind) (v a b r : ℕ) → Within kind ends starts entries v → a ≡ firstNode kind ends v → b ≡ secondNode kind ends v → a ≡ b
-      → r + ownOf kind ≡ length (stretch starts entries a) → r ≡ length (neighborsOf kind ends v)
+      → r ≡ length (stretch starts entries a) - ownOf kind → r ≡ length (neighborsOf kind ends v)
   unfolding ownOf firstNode secondNode neighborsOf
   neighbors-one Nodes v a b r w p q e s = let t = w .tabled in
       omega (arith, s, stretch-degree (t .sized .nodes) a (t .table) (omega (arith, w .inside, t .sized .size)), ap (degree ends (edgeCount ends)) p, length-neighbors ends (edgeCount ends) v)
@@ -218,25 +230,27 @@ module _ (ends starts entries : List ℕ) where
 
   -- and of one with two nodes.
   pub neighbors-two : (kind : Kind) (v a b r s : ℕ) → Within kind ends starts entries v → a ≡ firstNode kind ends v → b ≡ secondNode kind ends v → (a ≡ b → ⊥)
-      → r + ownOf kind ≡ length (stretch starts entries a) → s + ownOf kind ≡ length (stretch starts entries b) → r + s ≡ length (neighborsOf kind ends v)
+      → r ≡ length (stretch starts entries a) - ownOf kind → s ≡ length (stretch starts entries b) - ownOf kind → r + s ≡ length (neighborsOf kind ends v)
   unfolding ownOf firstNode secondNode neighborsOf
   neighbors-two Nodes v a b r s w p q n x y = absurd (n (p ∙ sym q))
-  neighbors-two Edges v a b r s w p q n x y = let t = w .tabled in
+  neighbors-two Edges v a b r s w p q n x y =
+      let t = w .tabled in
+      let m = t .sized .nodes in
+      let h = edge-within v w in
+      let first : a < m = rw p (first-inside Edges ends (w .items) (t .sized) v (w .inside)) in
+      let second : b < m = rw q (second-inside Edges ends (w .items) (t .sized) v (w .inside)) in
       omega (
         arith,
         x,
         y,
-        stretch-degree (t .sized .nodes) a (t .table) (rw p (first-inside Edges ends (w .items) (t .sized) v (w .inside))),
+        own-at v a m h (t .table) first (inl (sym p)),
+        own-at v b m h (t .table) second (inr (sym q)),
+        stretch-degree m a (t .table) first,
         ap (degree ends (edgeCount ends)) p,
-        stretch-degree (t .sized .nodes) b (t .table) (rw q (second-inside Edges ends (w .items) (t .sized) v (w .inside))),
+        stretch-degree m b (t .table) second,
         ap (degree ends (edgeCount ends)) q,
-        line-neighbor-count ends (edgeCount ends) v (edge-within v w) (λ e. n (p ∙ (e ∙ sym q))),
+        line-neighbor-count ends (edgeCount ends) v h (λ e. n (p ∙ (e ∙ sym q))),
       )
-
-  -- So many fit.
-  pub neighbors-fit : (kind : Kind) (v a b r s : ℕ) → Within kind ends starts entries v → a ≡ firstNode kind ends v → b ≡ secondNode kind ends v → (a ≡ b → ⊥)
-      → r + ownOf kind ≡ length (stretch starts entries a) → s + ownOf kind ≡ length (stretch starts entries b) → r + s < 18446744073709551616
-  neighbors-fit kind v a b r s w p q n x y = omega (arith, neighbors-two kind v a b r s w p q n x y, neighborhood kind ends (w .items) (w .tabled .sized) .few v (w .inside))
 
 -- ---- the smallest colour that no neighbour has
 

@@ -1,11 +1,11 @@
 // What is coloured: the nodes of a graph, or its edges. A node's neighbours lie across its edges; an edge's are the other edges at its ends.
 ghost use mathlib.Core.Path.{_≡_};
-ghost use Prim.Native.Nat.{_+_, _≤_, _<_};
+ghost use Prim.Native.Nat.{_-_, _<_};
 ghost use lib.ListN.{length};
 ghost use Rattle.graph.specs.Stretch.{stretch};
 ghost use Rattle.graph.specs.Colored.{noColor, colorOf, smallestFreeAt};
-ghost use Rattle.saturation.specs.Standing.{standsAt};
-ghost use Rattle.saturation.specs.Items.{firstNode, secondNode, acrossOf, ownOf, neighborsOf, Tabled, Within};
+ghost use Rattle.items.specs.Items.{firstNode, secondNode, acrossOf, ownOf, neighborsOf, Tabled, Within};
+ghost use Rattle.items.specs.Standing.{standsAt};
 use graph::Color;
 use graph::EdgeIndex;
 use graph::NodeIndex;
@@ -25,7 +25,7 @@ pub enum Kind {
 pub struct Item(pub u16);
 
 // The first node of an item: a node itself, or an edge's first end.
-pub(crate) fn first_node(kind: Kind, ends: &[u16], item: Item) -> NodeIndex
+pub fn first_node(kind: Kind, ends: &[u16], item: Item) -> NodeIndex
     ensures { λ r. ⌜ r .0 ≡ firstNode kind (now (ends .entry)) (item .0) ⌝ }
 {
     match kind {
@@ -35,7 +35,7 @@ pub(crate) fn first_node(kind: Kind, ends: &[u16], item: Item) -> NodeIndex
 }
 
 // The second node of an item: a node itself again, or an edge's second end.
-pub(crate) fn second_node(kind: Kind, ends: &[u16], item: Item) -> NodeIndex
+pub fn second_node(kind: Kind, ends: &[u16], item: Item) -> NodeIndex
     ensures { λ r. ⌜ r .0 ≡ secondNode kind (now (ends .entry)) (item .0) ⌝ }
 {
     match kind {
@@ -45,7 +45,7 @@ pub(crate) fn second_node(kind: Kind, ends: &[u16], item: Item) -> NodeIndex
 }
 
 // The item to which an edge leads from a node: its far end, or the edge itself.
-pub(crate) fn across(kind: Kind, ends: &[u16], edge: EdgeIndex, node: NodeIndex) -> Item
+pub fn across(kind: Kind, ends: &[u16], edge: EdgeIndex, node: NodeIndex) -> Item
     ensures { λ r. ⌜ r .0 ≡ acrossOf kind (now (ends .entry)) (edge .0) (node .0) ⌝ }
 {
     match kind {
@@ -56,26 +56,27 @@ pub(crate) fn across(kind: Kind, ends: &[u16], edge: EdgeIndex, node: NodeIndex)
 
 // How many edges stand at a node of an item, an edge itself not counted.
 fn count_at(kind: Kind, starts: &[u16], entries: &[u16], node: NodeIndex) -> usize
-    requires { ⌜ ownOf kind ≤ length (stretch (now starts) (now entries) (node .0)) ⌝ }
-    ensures { λ r. ⌜ r + ownOf kind ≡ length (stretch (now (starts .entry)) (now (entries .entry)) (node .0)) ⌝ }
+    ensures { λ r. ⌜ r ≡ length (stretch (now (starts .entry)) (now (entries .entry)) (node .0)) - ownOf kind ⌝ }
 {
     let edges = edges_at(starts, entries, node);
+    if edges.len() == 0 {
+        return 0;
+    }
     match kind {
         Kind::Nodes => edges.len(),
         Kind::Edges => edges.len() - 1,
     }
 }
 
-// How many neighbours an item has.
-pub(crate) fn neighbor_count(
+// How many neighbours an item of a graph that passed the checks has.
+pub fn neighbor_count(
     kind: Kind,
     ends: &[u16],
     starts: &[u16],
     entries: &[u16],
     item: Item,
 ) -> usize
-    requires { ⌜ Within kind (now ends) (now starts) (now entries) (item .0) ⌝ }
-    ensures { λ r. ⌜ r ≡ length (neighborsOf kind (now (ends .entry)) (item .0)) ⌝ }
+    ensures { λ r. ⌜ (Within kind (now (ends .entry)) (now (starts .entry)) (now (entries .entry)) (item .0) → r ≡ length (neighborsOf kind (now (ends .entry)) (item .0))) ⌝ }
 {
     let first = first_node(kind, ends, item);
     let second = second_node(kind, ends, item);
@@ -86,8 +87,8 @@ pub(crate) fn neighbor_count(
     count + count_at(kind, starts, entries, second)
 }
 
-// The smallest colour that no neighbour has.
-pub(crate) fn free_color(
+// The smallest colour that no neighbour has, for an item without a colour.
+pub fn free_color(
     kind: Kind,
     ends: &[u16],
     starts: &[u16],
@@ -95,9 +96,8 @@ pub(crate) fn free_color(
     colors: &[u16],
     item: Item,
 ) -> Color
-    requires { ⌜ Tabled kind (now ends) (now starts) (now entries) (length (now colors)) ⌝ }
-    requires { ⌜ (item .0 < length (now colors)) × (colorOf (now colors) (item .0) ≡ noColor) ⌝ }
-    ensures { λ r. ⌜ r .0 ≡ smallestFreeAt (now (colors .entry)) (neighborsOf kind (now (ends .entry)) (item .0)) ⌝ }
+    ensures { λ r. ⌜ (Tabled kind (now (ends .entry)) (now (starts .entry)) (now (entries .entry)) (length (now (colors .entry))) → item .0 < length (now (colors .entry))
+        → colorOf (now (colors .entry)) (item .0) ≡ noColor → r .0 ≡ smallestFreeAt (now (colors .entry)) (neighborsOf kind (now (ends .entry)) (item .0))) ⌝ }
 {
     match kind {
         Kind::Nodes => smallest_color(ends, starts, entries, colors, NodeIndex(item.0)),
@@ -106,7 +106,7 @@ pub(crate) fn free_color(
 }
 
 // Whether an edge at the node leads to an item that has the colour.
-pub(crate) fn stands_at(
+pub fn stands_at(
     kind: Kind,
     ends: &[u16],
     starts: &[u16],
