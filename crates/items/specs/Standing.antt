@@ -48,7 +48,7 @@ module _ (kind : Kind) (ends colors : List ℕ) (c w : ℕ) where
 
         pub stands-other : (getD colors v 0 ≡ c → ⊥) → standsAt (drop (i + 1) ks) ≡ standsAt ks
         unfolding hasColor
-        stands-other n = past (rw (ne-eqb (getD colors v 0) c n) (and-false (ltb v (length colors))))
+        stands-other n = past (rw (ne-eqb (getD colors v 0) c n) (and-false (ltb v (length colors)) false refl))
 
         pub stands-here : v < length colors → getD colors v 0 ≡ c → (edges : List ℕ) → ks ≡ edges → true ≡ standsAt edges
         unfolding hasColor

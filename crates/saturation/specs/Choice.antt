@@ -173,7 +173,7 @@ module _ (colors saturations waiting : List ℕ) (most longest : ℕ) where
         ] in
         let none : (u : ℕ) → u < length colors → colorOf colors u ≡ noColor → leads saturations waiting u k ≡ false = λ u h b.
         elim (dec-eq (getD saturations u 0) most) [
-          | inl z ↦ rw (le-ltb (getD saturations k 0) (getD saturations u 0) (omega arith), le-ltb (getD waiting k 0) (getD waiting u 0) (omega (arith, second .bound u h z, q))) (and-false (eqb (getD saturations k 0) (getD saturations u 0)))
+          | inl z ↦ rw (le-ltb (getD saturations k 0) (getD saturations u 0) (omega arith), le-ltb (getD waiting k 0) (getD waiting u 0) (omega (arith, second .bound u h z, q))) (and-false (eqb (getD saturations k 0) (getD saturations u 0)) false refl)
           | inr z ↦ rw (le-ltb (getD saturations k 0) (getD saturations u 0) (omega (arith, first .bound u h tt, p)), ne-eqb (getD saturations k 0) (getD saturations u 0) (λ y. z (sym y ∙ p)))
         ] in
         let l = lead-all saturations waiting colors k bare lower (length colors) inside none in
