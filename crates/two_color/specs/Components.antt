@@ -3,7 +3,7 @@ use Prim.Native.Nat.{ℕ, zero, suc, _+_, _-_, _≤_, _<_}
 use mathlib.Core.Path.{_≡_, refl, sym, ap, _∙_}
 use mathlib.Core.Logic.{_⊎_, inl, inr, _≢_}
 use mathlib.Core.List.{List}
-use mathlib.Core.Bool.{Bool, true, false, not, _&&_, _||_, xor, Bool·beq, cond, false≢true, true≢false}
+use mathlib.Core.Bool.{Bool, true, false, not, _&&_, xor, Bool·beq, cond, false≢true, true≢false}
 use native.Mathlib.Numerals.{add-one}
 use native.Mathlib.Nat.{not-suc-le-zero}
 use native.Mathlib.Omega.{arith}
@@ -17,7 +17,7 @@ use Rattle.graph.specs.Edges.{firstEnd, secondEnd}
 use Rattle.two_color.specs.declared.components.Root.{Root}
 use Rattle.two_color.specs.Odd.{false-xor, xor-false}
 use Rattle.two_color.specs.Sides.{lower, givesWay, lowest, oddSide, oddCycle, sideColor, sides}
-use Rattle.two_color.specs.SideLaws.{length-sides, sides-at}
+use Rattle.two_color.specs.SideLaws.{lowest-next, odd-more, cycle-more, length-sides, sides-at}
 
 -- The node that each hangs under, never a higher one, and whether it is on the other side than that node.
 pub record Forest (up : List ℕ) (flips : List Bool) : Type 0 where
@@ -197,25 +197,13 @@ module _ (ends : List ℕ) (k : ℕ) where
   abbrev same : Bool
   same = Bool·beq (oddSide ends k (firstEnd ends k)) (oddSide ends k (secondEnd ends k))
 
-  lowest-next : (v : ℕ) → lowest ends (suc k) v ≡ cond (givesWay lowFirst lowSecond (lowest ends k v)) (lower lowFirst lowSecond) (lowest ends k v)
-  unfolding lowest
-  lowest-next v = refl
-
-  odd-next : (v : ℕ) → oddSide ends (suc k) v ≡ xor (oddSide ends k v) (givesWay lowFirst lowSecond (lowest ends k v) && same)
-  unfolding oddSide
-  odd-next v = refl
-
-  cycle-next : oddCycle ends (suc k) ≡ oddCycle ends k || eqb lowFirst lowSecond && same
-  unfolding oddCycle
-  cycle-next = refl
-
   -- ---- inside one component nothing changes
 
   module _ (up : List ℕ) (flips : List Bool) (joined : Joined ends k up flips) (fine : oddCycle ends k ≡ false) where
     kept-joined : lowFirst ≡ lowSecond → Joined ends (suc k) up flips
     kept-joined e =
-        let low : (v : ℕ) → lowest ends (suc k) v ≡ lowest ends k v = λ v. lowest-next v ∙ simp (none-gives lowFirst lowSecond (lowest ends k v) e) in
-        let odd : (v : ℕ) → oddSide ends (suc k) v ≡ oddSide ends k v = λ v. odd-next v ∙ simp (none-gives lowFirst lowSecond (lowest ends k v) e, xor-false) in
+        let low : (v : ℕ) → lowest ends (suc k) v ≡ lowest ends k v = λ v. lowest-next ends k v ∙ simp (none-gives lowFirst lowSecond (lowest ends k v) e) in
+        let odd : (v : ℕ) → oddSide ends (suc k) v ≡ oddSide ends k v = λ v. odd-more ends k v ∙ simp (none-gives lowFirst lowSecond (lowest ends k v) e, xor-false) in
         record {
           forest = joined .forest;
           hangs = λ v h.
@@ -224,17 +212,17 @@ module _ (ends : List ℕ) (k : ℕ) where
         }
 
     edge-inside : lowFirst ≡ lowSecond → Taken ends (k + 1) up flips (not same)
-    edge-inside e = rw (add-one k) (record { answer = rw cycle-next (simp (fine, eq-eqb lowFirst lowSecond e)); joined = λ t. kept-joined e })
+    edge-inside e = rw (add-one k) (record { answer = rw (cycle-more ends k) (simp (fine, eq-eqb lowFirst lowSecond e)); joined = λ t. kept-joined e })
 
     -- ---- two components become one
 
     module _ (low high : ℕ) (lt : low < high) (gives : (r : ℕ) → givesWay lowFirst lowSecond r ≡ eqb r high) (least : lower lowFirst lowSecond ≡ low) (apart : lowFirst ≢ lowSecond)
         (low-own : (lowest ends k low ≡ low) × (oddSide ends k low ≡ false)) (high-own : (lowest ends k high ≡ high) × (oddSide ends k high ≡ false)) (inside : high < length up) where
       joined-lowest : (v : ℕ) → lowest ends (suc k) v ≡ cond (eqb (lowest ends k v) high) low (lowest ends k v)
-      joined-lowest v = lowest-next v ∙ simp (gives (lowest ends k v), least)
+      joined-lowest v = lowest-next ends k v ∙ simp (gives (lowest ends k v), least)
 
       joined-odd : (v : ℕ) → oddSide ends (suc k) v ≡ xor (oddSide ends k v) (eqb (lowest ends k v) high && same)
-      joined-odd v = odd-next v ∙ simp (gives (lowest ends k v))
+      joined-odd v = odd-more ends k v ∙ simp (gives (lowest ends k v))
 
       -- A root other than the higher one stays.
       stays : (w : ℕ) → w ≢ high → (lowest ends k w ≡ w) × (oddSide ends k w ≡ false) → (lowest ends (suc k) w ≡ w) × (oddSide ends (suc k) w ≡ false)
@@ -258,7 +246,7 @@ module _ (ends : List ℕ) (k : ℕ) where
           })
 
       taken-apart : Taken ends (k + 1) (set up high low) (set flips high same) true
-      taken-apart = rw (add-one k) (record { answer = rw cycle-next (simp (fine, ne-eqb lowFirst lowSecond apart)); joined = λ t. hung-joined })
+      taken-apart = rw (add-one k) (record { answer = rw (cycle-more ends k) (simp (fine, ne-eqb lowFirst lowSecond apart)); joined = λ t. hung-joined })
 
     -- ---- as the code finds the roots of the two ends
 
@@ -328,7 +316,7 @@ cycle-later : (ends : List ℕ) (k m : ℕ) → k ≤ m → oddCycle ends k ≡ 
 cycle-later ends k zero h e = let z : k ≡ 0 = omega arith in rw z at e
 cycle-later ends k (suc m) h e = elim (dec-eq k (suc m)) [
   | inl p ↦ rw p at e
-  | inr n ↦ rw (cycle-next ends m, cycle-later ends k m (omega arith) e)
+  | inr n ↦ rw (cycle-more ends m, cycle-later ends k m (omega arith) e)
 ]
 
 module _ (ends : List ℕ) (k : ℕ) (up : List ℕ) (flips : List Bool) (r : Bool) (taken : Taken ends k up flips r) where

@@ -3,12 +3,12 @@ use Prim.Native.Nat.{ℕ, zero, suc, _-_, _≤_, _<_}
 use mathlib.Core.Path.{_≡_, refl, sym, ap, _∙_}
 use mathlib.Core.Logic.{_⊎_, inl, inr, _≢_}
 use mathlib.Core.List.{List}
-use mathlib.Core.Bool.{Bool, true, false, not, _&&_, _||_, xor, Bool·beq, Bool·not-not, and-true as and-with-true, and-false, false≢true, true≢false}
+use mathlib.Core.Bool.{Bool, true, false, not, _&&_, _||_, xor, Bool·beq, cond, Bool·not-not, and-true as and-with-true, and-false, false≢true, true≢false}
 use native.Mathlib.Omega.{arith}
 use native.Mathlib.Nat.{not-suc-le-zero}
 use lib.ListN.{length, getD}
 use lib.Dec.{eqb, ltb}
-use borrow.Author.Tests.{lt-ltb, le-ltb, ltb-true, ltb-false, eq-eqb, ne-eqb, eqb-true, eqb-false}
+use borrow.Author.Tests.{lt-ltb, le-ltb, ltb-true, ltb-false, eq-eqb, eqb-true, eqb-false}
 use Rattle.lists.specs.Tests.{by-test, dec-eq, and-true, or-true, true-or, or-false}
 use Rattle.lists.specs.Tabulate.{length-tabulate, tabulate-at}
 use Rattle.graph.specs.Edges.{firstEnd, secondEnd, farEnd}
@@ -128,22 +128,24 @@ module _ (ends : List ℕ) (k : ℕ) where
   abbrev gives : ℕ → Bool
   gives v = givesWay lowFirst lowSecond (lowest ends k v)
 
-  lowest-gives : (v : ℕ) → gives v ≡ true → lowest ends (suc k) v ≡ lower lowFirst lowSecond
+  pub lowest-next : (v : ℕ) → lowest ends (suc k) v ≡ cond (gives v) (lower lowFirst lowSecond) (lowest ends k v)
   unfolding lowest
-  lowest-gives v e = simp e
+  lowest-next v = refl
+
+  lowest-gives : (v : ℕ) → gives v ≡ true → lowest ends (suc k) v ≡ lower lowFirst lowSecond
+  lowest-gives v e = lowest-next v ∙ simp e
 
   lowest-stays : (v : ℕ) → gives v ≡ false → lowest ends (suc k) v ≡ lowest ends k v
-  unfolding lowest
-  lowest-stays v e = simp e
+  lowest-stays v e = lowest-next v ∙ simp e
 
-  odd-more : (v : ℕ) → oddSide ends (suc k) v ≡ xor (oddSide ends k v) (gives v && same)
+  pub odd-more : (v : ℕ) → oddSide ends (suc k) v ≡ xor (oddSide ends k v) (gives v && same)
   unfolding oddSide
   odd-more v = refl
 
   odd-stays : (v : ℕ) → gives v ≡ false → oddSide ends (suc k) v ≡ oddSide ends k v
   odd-stays v e = odd-more v ∙ simp (e, xor-false)
 
-  cycle-more : oddCycle ends (suc k) ≡ oddCycle ends k || eqb lowFirst lowSecond && same
+  pub cycle-more : oddCycle ends (suc k) ≡ oddCycle ends k || eqb lowFirst lowSecond && same
   unfolding oddCycle
   cycle-more = refl
 
@@ -282,10 +284,6 @@ module _ (ends : List ℕ) (m : ℕ) (f : ℕ → Bool) (proper : (j : ℕ) → 
   proper-walk {u} stay = sym (false-xor (f u))
   proper-walk {u} (along k h p r) = proper-walk r ∙ rw (proper-far k u h p) (simp (not-xor, xor-not, Bool·not-not))
 
-  -- Where the lowest node has the colour false, the colours are the sides.
-  pub proper-side : (v : ℕ) → f (lowest ends m v) ≡ false → f v ≡ oddSide ends m v
-  proper-side v e = let w = lowest-walk ends m v in proper-walk (w .1) ∙ simp (w .2, e, xor-false)
-
   pub proper-no-odd : OddClosedWalk ends m → ⊥
   proper-no-odd c = not-fixed (f (c .node)) (proper-walk (c .walk) ∙ ap (λ (b : Bool). xor b (f (c .node))) (c .odd))
 
@@ -318,13 +316,6 @@ module _ (ends : List ℕ) (m : ℕ) (fine : oddCycle ends m ≡ false) (j : ℕ
   unfolding sideColor
   color-second = rw (sides-differ ends m fine j h) (by-test (oddSide ends m (secondEnd ends j)) (λ t. simp t) (λ t. simp t))
 
-  pub color-first : sideColor ends m (firstEnd ends j) ≡ 1 - sideColor ends m (secondEnd ends j)
-  color-first = omega (arith, color-second, side-color-bound ends m (firstEnd ends j))
-
-  pub color-far : (v : ℕ) → At ends j v → sideColor ends m (farEnd ends j v) ≡ 1 - sideColor ends m v
-  color-far v (inl p) = rw (far-first ends j v p, ← p) color-second
-  color-far v (inr p) = rw (far-second ends j v p, ← p) color-first
-
 pub length-sides : (ends : List ℕ) (m n : ℕ) → length (sides ends m n) ≡ n
 unfolding sides
 length-sides ends m n = length-tabulate (sideColor ends m) n
@@ -332,26 +323,3 @@ length-sides ends m n = length-tabulate (sideColor ends m) n
 pub sides-at : (ends : List ℕ) (m n v : ℕ) → v < n → getD (sides ends m n) v 0 ≡ sideColor ends m v
 unfolding sides
 sides-at ends m n v h = tabulate-at (sideColor ends m) n v h
-
--- ---- any colours 0 and 1 that differ along each edge
-
-other-zero : (x y : ℕ) → x ≤ 1 → y ≤ 1 → x ≢ y → eqb x 0 ≡ not (eqb y 0)
-other-zero x y a b n = by-test (eqb y 0)
-    (λ t. simp (t, ne-eqb x 0 (λ p. n (p ∙ sym (eqb-true y 0 t)))))
-    (λ t. let q = eqb-false y 0 t in simp (t, eq-eqb x 0 (omega arith)))
-
-module _ (ends : List ℕ) (m : ℕ) (colors : ℕ → ℕ)
-    (two : (j : ℕ) → j < m → (colors (firstEnd ends j) ≤ 1) × (colors (secondEnd ends j) ≤ 1))
-    (differ : (j : ℕ) → j < m → colors (firstEnd ends j) ≢ colors (secondEnd ends j)) where
-  colors-proper : (j : ℕ) → j < m → eqb (colors (firstEnd ends j)) 0 ≡ not (eqb (colors (secondEnd ends j)) 0)
-  colors-proper j h = other-zero (colors (firstEnd ends j)) (colors (secondEnd ends j)) (two j h .0) (two j h .1) (differ j h)
-
-  pub edges-differ-no-odd : oddCycle ends m ≡ false
-  edges-differ-no-odd = by-test (oddCycle ends m) (λ e. absurd (proper-no-odd ends m (λ v. eqb (colors v) 0) colors-proper (odd-cycle-walk ends m e))) (λ e. e)
-
-  -- Where the lowest node has 1, they are the colours by sides.
-  pub side-color-only : (v : ℕ) → colors v ≤ 1 → colors (lowest ends m v) ≡ 1 → colors v ≡ sideColor ends m v
-  unfolding sideColor
-  side-color-only v b one =
-      let e = proper-side ends m (λ u. eqb (colors u) 0) colors-proper v (simp one) in
-      rw (← e) (by-test (eqb (colors v) 0) (λ t. simp t (eqb-true (colors v) 0 t)) (λ t. let n = eqb-false (colors v) 0 t in simp t (omega arith)))

@@ -11,7 +11,7 @@ use lib.Dec.{eqb, leb}
 use borrow.Author.Tests.{eq-eqb, ne-eqb, leb-true}
 use Rattle.lists.specs.Tests.{by-test}
 use Rattle.graph.specs.Report.{Report, accepted, refused, Accepted, number, reportOfChecked}
-use Rattle.graph.specs.Check.{Check, _gives_, firstRefusal, answered, written, graphChecks, lengthCheck, checkGraph}
+use Rattle.graph.specs.Check.{_gives_, firstRefusal, answered, written, graphChecks, lengthCheck, checkGraph}
 use Rattle.graph.specs.CheckLaws.{numbersPass, refusal-passes, Passed, passed, passed-inside, sized-passed, passed-sized, refused-first, passed-first, first-refuses, first-passes, all-passed, answered-refused, answered-accepted, written-refused, written-accepted, graph-refused, graph-accepted}
 use Rattle.graph.specs.Edges.{edgeCount, firstEnd, secondEnd}
 use Rattle.graph.specs.Color.{colored, daysOf}

@@ -1,13 +1,9 @@
 // Two colours for the nodes of a graph, so that neighbours differ, or a plain no.
 ghost use mathlib.Core.Path.{_≡_};
-ghost use mathlib.Core.Bool.{true};
 ghost use Prim.Native.Nat.{ℕ, _≤_, _<_};
 ghost use lib.ListN.{length, getD};
 ghost use Rattle.graph.specs.Report.{reportOfColoring};
 ghost use Rattle.graph.specs.CheckLaws.{Passed};
-ghost use Rattle.graph.specs.Edges.{edgeCount};
-ghost use Rattle.graph.specs.Color.{colored};
-ghost use Rattle.graph.specs.Check.{_gives_};
 ghost use Rattle.two_color.specs.TwoColor.{twoColor, sidesOutcome, ProofPrinter};
 use graph::Checked;
 use graph::Coloring;
