@@ -1,10 +1,6 @@
 -- Misra-Gries edge colouring in code: the step and its parts, the tally, the run, the call's answers.
-pub mod Front
 pub mod MarkedFan
 pub mod MarkedFanLaws
-pub mod TablePath
-pub mod TablePlaces
-pub mod NewColors
 pub mod Step
 pub mod Range
 pub mod StepLaws

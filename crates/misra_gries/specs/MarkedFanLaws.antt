@@ -1,4 +1,4 @@
--- Laws of the fan by marks: each test and search as the code goes on with it, and that they find the fan of the definition.
+-- Laws of the fan by marks: the search by marks and table finds the fan of the definition.
 use Prim.Native.Nat.{ℕ, suc, _+_, _-_, _≤_, _<_}
 use mathlib.Core.Path.{_≡_, refl, sym, ap, _∙_}
 use mathlib.Core.Logic.{inl, inr, _≢_}
@@ -7,87 +7,28 @@ use mathlib.Core.Option.{Option, none, some}
 use mathlib.Core.Bool.{Bool, true, false, not, _&&_}
 use native.Mathlib.Omega.{arith}
 use native.Mathlib.Numerals.{add-one}
-use lib.ListN.{length, getD, set, take, drop, length-set, length-append, drop-of-length-le, take-append-drop}
-use lib.Seq.{drop-cons, take-suc, take-suc-set, length-take-le, getD-set-same, getD-set-other}
+use lib.ListN.{length, getD, set, take, drop, length-set, length-append, take-append-drop}
+use lib.Seq.{take-suc-set, length-take-le, getD-set-same, getD-set-other}
 use lib.Dec.{eqb}
 use borrow.Author.Tests.{eq-eqb, ne-eqb}
 use Rattle.lists.specs.Tests.{by-test, dec-eq}
-use Rattle.lists.specs.Member.{Mem, elem, mem-append}
+use Rattle.lists.specs.Member.{Mem, elem}
 use Rattle.graph.specs.Edges.{firstEnd, secondEnd, farEnd, edgesAt, degree}
 use Rattle.graph.specs.EdgeLaws.{far-first, edge-at, at-edge}
 use Rattle.graph.specs.Colored.{noColor, colorOf, isColored}
 use Rattle.vizing.specs.MisraGries.{isFree, joins, firstJoining, growFan}
-use Rattle.graph.specs.ColoredLaws.{colored-true, uncolored-false, is-colored-true}
+use Rattle.graph.specs.ColoredLaws.{is-colored-true}
 use Rattle.vizing.specs.DefinitionLaws.{first-joining-some}
 use Rattle.vizing.specs.Simple.{Incident}
 use Rattle.vizing.specs.Fan.{fan-at}
 use Rattle.vizing.specs.FanGrowth.{Grown, grown-fan, fan-nodup, fan-grown, fan-length}
 use Rattle.edge_table.specs.EdgeTable.{isEmpty}
 use Rattle.graph.specs.declared.EdgeIndex.{EdgeIndex}
-use Rattle.misra_gries.specs.declared.fan.Joining.{Joining}
-use Rattle.misra_gries.specs.declared.fan.Joining.the-variants.{Edge, Nothing}
-use Rattle.misra_gries.specs.MarkedFan.{optionOf, firstThat, mayJoin, joinsMarked, Passed, fanOf, FanReady}
-
--- ---- the first that passes a test
-
--- The search, as the code goes on with it.
-module _ (t : ℕ → Bool) (ks : List ℕ) (i : ℕ) (o : Option ℕ) (e : firstThat t (drop i ks) ≡ o) where
-  pub first-here : (r : Bool) → i < length ks → r ≡ t (getD ks i 0) → r ≡ true → some (getD ks i 0) ≡ o
-  unfolding firstThat
-  first-here r h p q = rw (drop-cons ks i 0 h, sym p ∙ q, firstThat) at e
-
-  pub first-next : (r : Bool) → i < length ks → r ≡ t (getD ks i 0) → r ≡ false → firstThat t (drop (i + 1) ks) ≡ o
-  unfolding firstThat
-  first-next r h p q = rw (add-one i) (rw (drop-cons ks i 0 h, sym p ∙ q, firstThat) at e)
-
-  pub first-end : length ks ≤ i → none ≡ o
-  unfolding firstThat
-  first-end h = rw (drop-of-length-le ks {i = i} h) at e
-
--- Where none of the numbers in front passes, the search may start behind them.
-first-behind : (t : ℕ → Bool) (js ks : List ℕ) → ((k : ℕ) → Mem k js → t k ≡ false) → firstThat t (js ++ ks) ≡ firstThat t ks
-unfolding firstThat
-first-behind t [] ks n = refl
-first-behind t (j ∷ js) ks n = rw (n j (inl refl)) (first-behind t js ks (λ k p. n k (inr p)))
-
--- ---- the tests, by what was read
-
-module _ (l M : List ℕ) (s k x : ℕ) (read : x ≡ getD M k 0) where
-  pub marked-may-not : x ≡ s → false ≡ mayJoin l M s k
-  unfolding mayJoin
-  marked-may-not e = rw (eq-eqb (getD M k 0) s (sym read ∙ e))
-
-  module _ (c : ℕ) (other : x ≡ s → ⊥) (color : c ≡ colorOf l k) where
-    pub uncolored-may-not : c ≡ noColor → false ≡ mayJoin l M s k
-    unfolding mayJoin
-    uncolored-may-not e = rw (ne-eqb (getD M k 0) s (λ z. other (read ∙ z)), uncolored-false l k (sym color ∙ e))
-
-    pub colored-may : (c ≡ noColor → ⊥) → true ≡ mayJoin l M s k
-    unfolding mayJoin
-    colored-may n = rw (ne-eqb (getD M k 0) s (λ z. other (read ∙ z)), colored-true l k (λ z. n (color ∙ z)))
-
-module _ (l T M : List ℕ) (s x k : ℕ) (may : Bool) (asked : may ≡ mayJoin l M s k) where
-  pub may-not-joins : may ≡ false → false ≡ joinsMarked l T M s x k
-  unfolding joinsMarked
-  may-not-joins e = rw (sym asked ∙ e)
-
-  pub may-joins : (c : ℕ) (r : Bool) → may ≡ true → c ≡ colorOf l k → r ≡ isEmpty T x c → r ≡ joinsMarked l T M s x k
-  unfolding joinsMarked
-  may-joins c r e p q = rw (sym asked ∙ e, ← p) q
-
--- ---- the place before which no candidate may join
-
-pub passed-none : (l M : List ℕ) (s : ℕ) (near : List ℕ) → Passed l M s near 0
-unfolding Passed
-passed-none l M s near k p = absurd p
-
-pub passed-more : (l M : List ℕ) (s : ℕ) (near : List ℕ) (i : ℕ) (may : Bool) → Passed l M s near i → i < length near → may ≡ mayJoin l M s (getD near i 0) → may ≡ false
-    → Passed l M s near (i + 1)
-unfolding Passed
-passed-more l M s near i may passed h p e k q = elim (mem-append k (take i near) (getD near i 0 ∷ []) (rw (add-one i, take-suc near i 0 h) at q)) [
-  | inl z ↦ passed k z
-  | inr z ↦ elim z [ inl y ↦ rw y (sym p ∙ e) | inr y ↦ absurd y ]
-]
+use Rattle.fan.specs.declared.candidates.Joining.{Joining}
+use Rattle.fan.specs.declared.candidates.Joining.the-variants.{Edge, Nothing}
+use Rattle.fan.specs.Candidates.{optionOf, firstThat, mayJoin, joinsMarked, Passed}
+use Rattle.fan.specs.CandidateLaws.{first-behind}
+use Rattle.misra_gries.specs.MarkedFan.{fanOf, FanReady}
 
 -- ---- an edge takes the mark
 

@@ -1,36 +1,53 @@
 -- Laws of the step's parts, as the code has them: the path exchanged, the fan rotated, steps 2 to 5.
 use Prim.Native.Nat.{ℕ, suc, _+_, _-_, _*_, _≤_, _<_}
 use mathlib.Core.Path.{_≡_, refl, sym, ap, _∙_, subst}
-use mathlib.Core.List.{List, [], _∷_, map}
+use mathlib.Core.List.{List, [], _∷_, _++_}
 use mathlib.Core.Bool.{Bool, true, cond}
 use native.Mathlib.Omega.{arith}
 use native.Mathlib.Nat.{min-le-left}
-use lib.ListN.{length, getD, take, drop, length-map, length-take}
-use lib.Seq.{length-take-le}
+use lib.ListN.{length, getD, take, drop, length-append, length-take}
+use lib.Seq.{length-take-le, take-append-le}
 use borrow.Author.Tests.{eq-eqb, ne-eqb}
 use Rattle.graph.specs.Edges.{edgeCount, firstEnd, secondEnd, farEnd, edgesAt, degree}
 use Rattle.graph.specs.Stretch.{stretch}
 use Rattle.vizing.specs.SimpleDegree.{degree-below}
 use Rattle.misra_gries.specs.MarkedFan.{FanReady, fanOf}
 use Rattle.graph.specs.EdgeLaws.{far-first}
-use Rattle.graph.specs.Colored.{noColor, colorOf, smallestFreeAt}
-use Rattle.vizing.specs.MisraGries.{lastFarEnd, swap, path, exchange, rotate, store, Found, find, step}
+use Rattle.graph.specs.Colored.{smallestFreeAt}
+use Rattle.vizing.specs.MisraGries.{lastFarEnd, path, exchange, rotate, store, Found, find, step}
 use Rattle.vizing.specs.Store.{exchange-none}
 use Rattle.vizing.specs.Step.{Invariant, FoundLaws, found-laws, step-keeps}
 use Rattle.edge_table.specs.EdgeTable.{state, repainted, isEmpty, smallestEmpty}
 use Rattle.edge_table.specs.TableOf.{TableOf, says-smallest, says-free}
 use Rattle.edge_table.specs.Repaint.{Repaintable, repaint-done}
 use Rattle.edge_table.specs.StepRepaint.{exchangedColors, rotatedColors, exchange-done, step-exchange, step-rotation}
-use Rattle.misra_gries.specs.TablePath.{tablePath, path-none, table-path}
-use Rattle.misra_gries.specs.TablePlaces.{tablePlaces, table-places, places-taken}
+use Rattle.fan.specs.TablePath.{tablePath, path-none, table-path}
+use Rattle.fan.specs.TablePlaces.{tablePlaces, table-places, places-taken}
 use Rattle.misra_gries.specs.Range.{palette, max-degree-below}
 use Rattle.misra_gries.specs.Step.{InRange, Ready, Exchanging, Turning, Turned, topColor}
 
 -- ---- the path exchanged
 
--- The colours fill as many places as there are edges.
-pub new-length : (l : List ℕ) (c d : ℕ) (es out : List ℕ) (len : ℕ) → len ≡ length es → take (length es) out ≡ exchangedColors l c d es → len ≡ length (take len out)
-new-length l c d es out len p e = p ∙ (sym (length-map es (λ (k : ℕ). swap c d (colorOf l k))) ∙ (sym (ap length e) ∙ ap (λ (i : ℕ). length (take i out)) (sym p)))
+-- The path from u along d, c stands in the first len places of an array of 512.
+pub record Followed (ends T : List ℕ) (n u d c : ℕ) (edges : List ℕ) (len : ℕ) : Type 0 where
+  pub path : take len edges ≡ tablePath ends T n u d c
+  pub inside : len ≤ length edges
+  pub filled : len ≡ length (take len edges)
+  pub short : len ≤ 512
+
+-- The first n places of the array A were lent to `follow`, and hold L afterwards.
+pub path-followed : (ends T : List ℕ) (n u d c : ℕ) (A L : List ℕ) (len : ℕ) → n ≤ length A → length A ≡ 512 → length L ≡ length (take n A)
+    → (take len L ≡ tablePath ends T (length (take n A)) u d c) × ((len ≡ length (tablePath ends T (length (take n A)) u d c)) × (len ≤ length (take n A)))
+    → Followed ends T n u d c (L ++ drop n A) len
+path-followed ends T n u d c A L len room size kept e =
+    let lent = length-take-le n A room in
+    let inside : len ≤ length (L ++ drop n A) = rw (length-append L (drop n A)) (omega (arith, kept, e .1 .1)) in
+    record {
+      path = take-append-le len L (drop n A) (omega (arith, kept, e .1 .1)) ∙ (e .0 ∙ ap (λ (i : ℕ). tablePath ends T i u d c) lent);
+      inside = inside;
+      filled = sym (length-take-le len (L ++ drop n A) inside);
+      short = omega (arith, lent, e .1 .1, room, size);
+    }
 
 module _ (ends l T : List ℕ) (n u c d : ℕ) (E : Exchanging ends n l T u c d) where
   right-path : tablePath ends T n u d c ≡ path ends (edgeCount ends) n l u d c

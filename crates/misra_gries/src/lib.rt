@@ -23,10 +23,7 @@ use run::run;
 use simple_graph::check_simple;
 use tally::Tally;
 
-mod fan;
-mod new_colors;
-mod path;
-mod places;
+mod grow;
 mod run;
 mod steps;
 mod tally;

@@ -9,14 +9,14 @@ ghost use Rattle.edge_table.specs.TableOf.{TableOf};
 ghost use Rattle.edge_table.specs.Repaint.{Repaintable};
 ghost use Rattle.edge_table.specs.StepRepaint.{exchangedColors, rotatedColors};
 ghost use Rattle.misra_gries.specs.Step.{Ready, Stepped, Exchanging, Turning, Turned};
-use crate::fan::grow;
-use crate::new_colors::shift_colors;
-use crate::new_colors::swap_colors;
-use crate::path::follow;
-use crate::places::places_to;
+use crate::grow::grow;
 use edge_table::is_free;
 use edge_table::repaint;
 use edge_table::smallest_free;
+use fan::follow;
+use fan::places_to;
+use fan::shift_colors;
+use fan::swap_colors;
 use graph::Color;
 use graph::EdgeIndex;
 use graph::NodeIndex;
@@ -41,7 +41,7 @@ fn exchange_edges(
 {
     let mut edges = [0u16; 512];
     let mut colors = [0u16; 512];
-    let len = follow(n, ends, table, node, d, c, &mut edges);
+    let len = follow(ends, table, node, d, c, &mut edges[..n]);
     swap_colors(work, &edges[..len], c, d, &mut colors);
     repaint(ends, work, table, &edges[..len], &colors[..len]);
     len

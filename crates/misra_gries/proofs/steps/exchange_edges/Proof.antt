@@ -1,77 +1,47 @@
 -- `exchange_edges` meets its contract: the new colours are read, then the path's edges take them.
-use Prim.Native.Nat.{ℕ, _≤_}
-use mathlib.Core.Path.{sym, ap, subst, _∙_}
-use lib.ListN.{length}
-use Rattle.misra_gries.specs.StepLaws.{new-length, path-exchanged}
-use lib.ListN.{take}
-use borrow.Author.Needs.{needs}
+use Prim.Native.Nat.{_≤_}
+use mathlib.Core.Path.{refl, sym}
+use mathlib.Core.List.{_++_}
 use native.Mathlib.Omega.{arith}
+use lib.ListN.{length, drop, replicate}
+use lib.Seq.{length-take-le}
 use borrow.Author.Needs.{needs}
+use Rattle.misra_gries.specs.StepLaws.{Followed, path-followed, path-exchanged}
 use Rattle.misra_gries.proofs.steps.exchange_edges.Statement.{statement}
 use Rattle.misra_gries.proofs.steps.exchange_edges.Tie as tie
-use Rattle.misra_gries.proofs.steps.exchange_edges.Reads as reads
-use Rattle.misra_gries.proofs.steps.exchange_edges.Lts as lts
-use Rattle.edge_table.proofs.repaint.Reads as repaint-reads
-use Rattle.misra_gries.proofs.new_colors.swap_colors.Reads as swap-colors-reads
-use Rattle.misra_gries.proofs.path.follow.Reads as follow-reads
+
+-- What `follow` leaves in the array of edges.
+followed : (f : tie.After-follow)
+    → Followed (f .before .before .before .before .before .before .args .ends .now) (f .before .before .before .before .before .before .args .table .now) (f .before .before .before .before .before .before .args .n) (f .before .before .before .before .before .before .args .node .0) (f .before .before .before .before .before .before .args .d .0) (f .before .before .before .before .before .before .args .c .0)
+    (f .follow .last .1 .1 .1 .1 .1 .0 ++ drop (f .before .before .before .before .before .before .args .n) (replicate 512 0)) (f .follow .result)
+followed f = path-followed _ _ _ _ _ _ (replicate 512 0) (f .follow .last .1 .1 .1 .1 .1 .0) _ (f .before .before .before .before .before .before .pre .nodes) refl (f .follow .kept .1 .1 .1 .1 .1 .0) (f .follow .ensures)
+
+-- There is room for the colours.
+room : (s : tie.After-swap-colors) → s .before .before .before .before .before .follow .result ≤ length (s .swap-colors .last .1 .1 .1 .1 .0)
+room s = omega (arith, s .swap-colors .kept .1 .1 .1 .1 .0, followed (s .before .before .before .before .before) .short)
 
 slice-aggregate-follow : tie.Need-slice-aggregate-follow
-slice-aggregate-follow c = search needs
-
-follow-requires : tie.Need-follow-requires
-follow-requires c κs = search needs
-
-array-share-prefix-edges : tie.Need-array-share-prefix-edges
-array-share-prefix-edges c = search needs
-
-slice-aggregate-swap-colors : tie.Need-slice-aggregate-swap-colors
-slice-aggregate-swap-colors c = (c .before .before .before .follow .ensures .1 .0 ∙ sym (ap length (c .before .before .before .follow .ensures .0)))
-
-slice-aggregate-swap-colors-2 : tie.Need-slice-aggregate-swap-colors-2
-slice-aggregate-swap-colors-2 c = search needs
-
-swap-colors-requires : tie.Need-swap-colors-requires
-swap-colors-requires c κs = subst (λ (i : ℕ). i ≤ 512) (c .before .before .before .before .follow .ensures .1 .0 ∙ sym (ap length (c .before .before .before .before .follow .ensures .0))) (omega (arith, c .before .before .before .before .follow .ensures .1 .1, c .before .before .before .before .before .before .before .before .before .before .pre .nodes))
-
-array-share-prefix-edges-2 : tie.Need-array-share-prefix-edges-2
-array-share-prefix-edges-2 c = search needs
-
-slice-aggregate-repaint : tie.Need-slice-aggregate-repaint
-slice-aggregate-repaint c = (c .before .before .before .before .before .before .before .before .before .follow .ensures .1 .0 ∙ sym (ap length (c .before .before .before .before .before .before .before .before .before .follow .ensures .0)))
-
-array-share-prefix-colors : tie.Need-array-share-prefix-colors
-array-share-prefix-colors c = search needs
+slice-aggregate-follow c = sym (length-take-le _ (replicate 512 0) (c .before .before .before .before .before .pre .nodes))
 
 slice-aggregate-repaint-2 : tie.Need-slice-aggregate-repaint-2
-slice-aggregate-repaint-2 c = new-length (c .before .before .before .before .before .before .before .before .before .before .before .before .before .before .before .before .args .work .now) (c .before .before .before .before .before .before .before .before .before .before .before .before .before .before .before .before .args .c .0) (c .before .before .before .before .before .before .before .before .before .before .before .before .before .before .before .before .args .d .0) (take (c .before .before .before .before .before .before .before .before .before .before .follow .result) (c .before .before .before .before .before .before .before .before .before .before .follow .last .1 .1 .1 .1 .1 .1 .0)) _ _ (c .before .before .before .before .before .before .before .before .before .before .follow .ensures .1 .0 ∙ sym (ap length (c .before .before .before .before .before .before .before .before .before .before .follow .ensures .0))) (c .before .before .before .before .before .swap-colors .ensures)
-
-repaint-requires : tie.Need-repaint-requires
-repaint-requires c κs = search needs
-
-same-length : tie.Need-same-length
-same-length c = search needs
-
-same-length-2 : tie.Need-same-length-2
-same-length-2 c = search needs
+slice-aggregate-repaint-2 c = sym (length-take-le _ _ (room (c .before .before .before .before .before)))
 
 returns : tie.Need-returns
-returns c = path-exchanged _ _ _ _ _ _ _ (c .before .before .before .before .before .before .before .before .before .before .before .before .before .before .before .before .before .before .before .before .before .pre) _ _ _ _ _ (c .before .before .before .before .before .before .before .before .before .before .before .before .before .before .before .follow .ensures .0) (c .before .before .before .before .before .before .before .before .before .before .before .before .before .before .before .follow .ensures .1 .0 ∙ sym (ap length (c .before .before .before .before .before .before .before .before .before .before .before .before .before .before .before .follow .ensures .0))) (c .before .before .before .before .before .before .before .before .before .before .swap-colors .ensures) (c .before .before .before .before .repaint .ensures)
+returns c =
+    let f = followed (c .before .before .before .before .before .before .before .before .before .before .before .before .before .before .before) in
+    path-exchanged _ _ _ _ _ _ _ (c .before .before .before .before .before .before .before .before .before .before .before .before .before .before .before .before .before .before .before .before .before .pre) _ _ _ _ _ (f .path) (f .filled) (c .before .before .before .before .before .before .before .before .before .before .swap-colors .ensures (omega (arith, f .filled, f .short))) (c .before .before .before .before .repaint .ensures)
 
 pub exchange-edges-spec : {M : Type 1} → statement M
 exchange-edges-spec =
     tie.close
     (tie.spec
+    (λ c. search needs)
     slice-aggregate-follow
-    follow-requires
-    array-share-prefix-edges
-    slice-aggregate-swap-colors
-    slice-aggregate-swap-colors-2
-    swap-colors-requires
-    array-share-prefix-edges-2
-    slice-aggregate-repaint
-    array-share-prefix-colors
+    (λ c κs. search needs)
+    (λ c. followed (c .before .before) .inside) (λ c. followed (c .before .before .before) .filled)
+    (λ c. search needs) (λ c κs. search needs)
+    (λ c. followed (c .before .before .before .before .before .before .before .before) .inside) (λ c. followed (c .before .before .before .before .before .before .before .before .before) .filled)
+    (λ c. room (c .before .before .before .before))
     slice-aggregate-repaint-2
-    repaint-requires
-    same-length
-    same-length-2
+    (λ c κs. search needs) (λ c. search needs) (λ c. search needs)
     returns)

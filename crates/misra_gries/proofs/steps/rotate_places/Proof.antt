@@ -8,7 +8,7 @@ use Rattle.misra_gries.proofs.steps.rotate_places.Tie as tie
 use Rattle.misra_gries.proofs.steps.rotate_places.Reads as reads
 use Rattle.misra_gries.proofs.steps.rotate_places.Lts as lts
 use Rattle.edge_table.proofs.repaint.Reads as repaint-reads
-use Rattle.misra_gries.proofs.new_colors.shift_colors.Reads as shift-colors-reads
+use Rattle.fan.proofs.shift_colors.Reads as shift-colors-reads
 
 slice-aggregate-shift-colors : tie.Need-slice-aggregate-shift-colors
 slice-aggregate-shift-colors c = search needs
@@ -20,7 +20,7 @@ array-share-prefix-colors : tie.Need-array-share-prefix-colors
 array-share-prefix-colors c = search needs
 
 slice-aggregate-repaint : tie.Need-slice-aggregate-repaint
-slice-aggregate-repaint c = rotated-length _ _ _ _ _ (c .before .before .before .before .before .before .before .before .before .before .before .pre .0) (c .before .before .before .before .before .before .before .before .before .before .before .pre .1 .0) _ (c .before .before .before .before .shift-colors .ensures)
+slice-aggregate-repaint c = rotated-length _ _ _ _ _ (c .before .before .before .before .before .before .before .before .before .before .before .pre .0) (c .before .before .before .before .before .before .before .before .before .before .before .pre .1 .0) _ (c .before .before .before .before .shift-colors .ensures (c .before .before .before .before .before .before .before .before .before .before .before .pre .1 .1 .0) (c .before .before .before .before .before .before .before .before .before .before .before .pre .1 .1 .1))
 
 repaint-requires : tie.Need-repaint-requires
 repaint-requires c κs = search needs
@@ -32,7 +32,7 @@ same-length-2 : tie.Need-same-length-2
 same-length-2 c = search needs
 
 returns : tie.Need-returns
-returns c = fan-rotated _ _ _ _ _ (c .before .before .before .before .before .before .before .before .before .before .before .before .before .before .before .before .pre .0) (c .before .before .before .before .before .before .before .before .before .before .before .before .before .before .before .before .pre .1 .0) _ (c .before .before .before .before .before .before .before .before .before .shift-colors .ensures) _ _ (c .before .before .before .before .repaint .ensures)
+returns c = fan-rotated _ _ _ _ _ (c .before .before .before .before .before .before .before .before .before .before .before .before .before .before .before .before .pre .0) (c .before .before .before .before .before .before .before .before .before .before .before .before .before .before .before .before .pre .1 .0) _ (c .before .before .before .before .before .before .before .before .before .shift-colors .ensures (c .before .before .before .before .before .before .before .before .before .before .before .before .before .before .before .before .pre .1 .1 .0) (c .before .before .before .before .before .before .before .before .before .before .before .before .before .before .before .before .pre .1 .1 .1)) _ _ (c .before .before .before .before .repaint .ensures)
 
 pub rotate-places-spec : {M : Type 1} → statement M
 rotate-places-spec =

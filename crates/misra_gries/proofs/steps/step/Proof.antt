@@ -11,7 +11,7 @@ use Rattle.misra_gries.proofs.steps.step.Reads as reads
 use Rattle.misra_gries.proofs.steps.step.Lts as lts
 use Rattle.graph.proofs.edges_at.Reads as edges-at-reads
 use Rattle.graph.proofs.end_at.Reads as end-at-reads
-use Rattle.misra_gries.proofs.fan.grow.Reads as grow-reads
+use Rattle.misra_gries.proofs.grow.grow.Reads as grow-reads
 use Rattle.misra_gries.proofs.steps.turn.Reads as turn-reads
 
 cast-k : tie.Need-cast-k

@@ -8,7 +8,7 @@ use Rattle.misra_gries.proofs.steps.turn.Reads as reads
 use Rattle.misra_gries.proofs.steps.turn.Lts as lts
 use Rattle.edge_table.proofs.smallest_free.Reads as smallest-free-reads
 use Rattle.graph.proofs.far_end.Reads as far-end-reads
-use Rattle.misra_gries.proofs.places.places_to.Reads as places-to-reads
+use Rattle.fan.proofs.places_to.Reads as places-to-reads
 use Rattle.misra_gries.proofs.steps.exchange_path.Reads as exchange-path-reads
 use Rattle.misra_gries.proofs.steps.rotate_fan.Reads as rotate-fan-reads
 

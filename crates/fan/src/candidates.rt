@@ -1,0 +1,111 @@
+// The candidates of a fan (step 1). The edges in it are those whose mark is the stamp of this step.
+use edge_table::color_of;
+use edge_table::is_free;
+use graph::Color;
+use graph::EdgeIndex;
+use graph::NodeIndex;
+ghost use mathlib.Core.Path.{_≡_};
+ghost use mathlib.Core.Bool.{true};
+ghost use Prim.Native.Nat.{_<_};
+ghost use lib.ListN.{length, getD, set, drop};
+ghost use Rattle.fan.specs.Candidates.{optionOf, firstThat, mayJoin, joinsMarked, Passed};
+
+// The candidate that joins next.
+pub enum Joining {
+    Edge(EdgeIndex),
+    Nothing,
+}
+
+// The stamp of the last step whose fan had the edge, 0 if none had.
+fn mark_of(marks: &[u16], edge: EdgeIndex) -> u16
+    ensures { λ r. ⌜ r ≡ getD (now (marks .entry)) (edge .0) 0 ⌝ }
+{
+    let k = edge.0 as usize;
+    if k < marks.len() { marks[k] } else { 0 }
+}
+
+pub fn set_mark(marks: &mut [u16], edge: EdgeIndex, stamp: u16)
+    ensures { λ _. ⌜ now (marks .exit) ≡ set (now (marks .entry)) (edge .0) stamp ⌝ }
+{
+    let k = edge.0 as usize;
+    if marks.len() <= k {
+        return;
+    }
+    marks[k] = stamp;
+}
+
+// Whether the edge is coloured and not in the fan yet.
+fn may_join(work: &[u16], marks: &[u16], stamp: u16, edge: EdgeIndex) -> bool
+    ensures { λ r. ⌜ r ≡ mayJoin (now (work .entry)) (now (marks .entry)) stamp (edge .0) ⌝ }
+{
+    if mark_of(marks, edge) == stamp {
+        return false;
+    }
+    if color_of(work, edge).0 == Color::NONE {
+        return false;
+    }
+    true
+}
+
+// Whether the edge joins the fan whose last edge has this far end. The mark comes last: most candidates fail at the table.
+fn joins(
+    work: &[u16],
+    table: &[u16],
+    marks: &[u16],
+    stamp: u16,
+    far: NodeIndex,
+    edge: EdgeIndex,
+) -> bool
+    ensures { λ r. ⌜ r ≡ joinsMarked (now (work .entry)) (now (table .entry)) (now (marks .entry)) stamp (far .0) (edge .0) ⌝ }
+{
+    let color = color_of(work, edge);
+    if color.0 == Color::NONE {
+        return false;
+    }
+    if is_free(table, far, color) {
+        mark_of(marks, edge) != stamp
+    } else {
+        false
+    }
+}
+
+// The first candidate from this place on that joins.
+pub fn first_joining(
+    work: &[u16],
+    table: &[u16],
+    marks: &[u16],
+    stamp: u16,
+    far: NodeIndex,
+    near: &[u16],
+    from: usize,
+) -> Joining
+    ensures { λ r. ⌜ optionOf r
+        ≡ firstThat (joinsMarked (now (work .entry)) (now (table .entry)) (now (marks .entry)) stamp (far .0)) (drop from (now (near .entry))) ⌝ }
+{
+    let mut i = from;
+    while i < near.len() {
+        let edge = EdgeIndex(near[i]);
+        if joins(work, table, marks, stamp, far, edge) {
+            return Joining::Edge(edge);
+        }
+        i += 1;
+    }
+    Joining::Nothing
+}
+
+// The first place from this one on whose candidate is coloured and not in the fan yet, or the end.
+pub fn skip(work: &[u16], marks: &[u16], stamp: u16, near: &[u16], from: usize) -> usize
+    ensures { λ r. ⌜ (Passed (now (work .entry)) (now (marks .entry)) stamp (now (near .entry)) from
+        → Passed (now (work .entry)) (now (marks .entry)) stamp (now (near .entry)) r) ⌝ }
+    ensures { λ r. ⌜ (r < length (now (near .entry))
+        → mayJoin (now (work .entry)) (now (marks .entry)) stamp (getD (now (near .entry)) r 0) ≡ true) ⌝ }
+{
+    let mut i = from;
+    while i < near.len() {
+        if may_join(work, marks, stamp, EdgeIndex(near[i])) {
+            return i;
+        }
+        i += 1;
+    }
+    i
+}

@@ -1,0 +1,42 @@
+// The path (step 3).
+use edge_table::EdgeOfColor;
+use edge_table::edge_of_color;
+use graph::Color;
+use graph::NodeIndex;
+use graph::far_end;
+ghost use mathlib.Core.Path.{_≡_};
+ghost use Prim.Native.Nat.{_≤_};
+ghost use lib.ListN.{length, take};
+ghost use Rattle.fan.specs.TablePath.{tablePath};
+
+// The path from the node along colours first, second, first and so on, as far as it goes and out has room, to the front of
+// out; the answer is the number of its edges.
+pub fn follow(
+    ends: &[u16],
+    table: &[u16],
+    node: NodeIndex,
+    first: Color,
+    second: Color,
+    out: &mut [u16],
+) -> usize
+    ensures { λ r. ⌜ take r (now (out .exit)) ≡ tablePath (now (ends .entry)) (now (table .entry)) (length (now (out .entry))) (node .0) (first .0) (second .0) ⌝ }
+    ensures { λ r. ⌜ r ≡ length (tablePath (now (ends .entry)) (now (table .entry)) (length (now (out .entry))) (node .0) (first .0) (second .0)) ⌝ }
+    ensures { λ r. ⌜ r ≤ length (now (out .entry)) ⌝ }
+{
+    let mut end = node;
+    let mut color = first;
+    let mut other = second;
+    let mut len = 0;
+    while len < out.len() {
+        let EdgeOfColor::Edge(edge) = edge_of_color(table, end, color) else {
+            return len;
+        };
+        out[len] = edge.0;
+        end = far_end(ends, edge, end);
+        let last = color;
+        color = other;
+        other = last;
+        len += 1;
+    }
+    len
+}

@@ -1,0 +1,71 @@
+-- `grow` meets its contract. The invariant: `len` edges of the fan are written and marked, `next` is the one after them, and no
+-- candidate before lo may join.
+use Prim.Native.Nat.{_-_}
+use mathlib.Core.Path.{_≡_}
+use native.Mathlib.Omega.{arith}
+use lib.ListN.{length}
+use borrow.Author.Needs.{needs}
+use Rattle.graph.specs.Edges.{edgeCount}
+use Rattle.fan.specs.Candidates.{Passed}
+use Rattle.fan.specs.CandidateLaws.{passed-none}
+use Rattle.misra_gries.specs.MarkedFanLaws.{Growing, growing-start, growing-few, growing-low, growing-passed, growing-stop, growing-more}
+use Rattle.misra_gries.proofs.grow.grow.Statement.{statement}
+use Rattle.misra_gries.proofs.grow.grow.Tie as tie
+
+abbrev Inv-loop : tie.InvT-loop
+Inv-loop ends work table marks₀ stamp near node out₀ next₀ len₀ lo₀ marks out next len lo =
+    (length out ≡ length out₀) × (length marks ≡ length marks₀)
+    × Growing ends (edgeCount ends) work stamp (next₀ .0) (node .0) out marks len (next .0) × Passed work marks stamp near lo
+
+abbrev μ-loop : tie.MeasureT-loop
+μ-loop ends work table marks₀ stamp near node out₀ next₀ len₀ lo₀ marks out next len lo = length out₀ - len
+
+returns : tie.Need-returns Inv-loop μ-loop
+returns c =
+    let search-place = c .before .before in
+    let skip-place = search-place .before .before in
+    let far-place = skip-place .before .before in
+    let mark-place = far-place .before .before .before in
+    let turn = mark-place .before .before in
+    let ready = turn .before .before .before .before .before .before .before .before .pre .0 in
+    let passed = skip-place .skip .ensures .0 (growing-passed _ _ _ _ _ _ _ _ _ ready _ _ _ _ (turn .before .loop .inv .2) _ (mark-place .set-mark .ensures) _ (turn .before .loop .inv .3)) in (
+      growing-stop _ _ _ _ _ _ _ _ _ ready _ _ _ _ (turn .before .loop .inv .2) _ (mark-place .set-mark .ensures) (turn .loop-test .taken) _ (far-place .far-end .ensures) _
+          passed _ (search-place .first-joining .ensures) (c .enum-told .given .1),
+      (search (needs, growing-few), search (needs, growing-low)),
+    )
+
+loop-again : tie.Need-loop-again Inv-loop μ-loop
+loop-again c =
+    let search-place = c .before .before .before in
+    let skip-place = search-place .before .before in
+    let far-place = skip-place .before .before in
+    let mark-place = far-place .before .before .before in
+    let turn = mark-place .before .before in
+    let ready = turn .before .before .before .before .before .before .before .before .pre .0 in
+    let passed = skip-place .skip .ensures .0 (growing-passed _ _ _ _ _ _ _ _ _ ready _ _ _ _ (turn .before .loop .inv .2) _ (mark-place .set-mark .ensures) _ (turn .before .loop .inv .3)) in (
+      search needs,
+      search needs,
+      growing-more _ _ _ _ _ _ _ _ _ ready _ _ _ _ (turn .before .loop .inv .2) _ (mark-place .set-mark .ensures) (turn .loop-test .taken) _ (far-place .far-end .ensures) _
+          passed _ (search-place .first-joining .ensures) _ (c .before .joining .given .1),
+      passed,
+    )
+
+-- There is room for the next edge.
+returns-2 : tie.Need-returns-2 Inv-loop μ-loop
+returns-2 c = let z : ⊥ = omega (arith, c .before .loop .inv .0, c .before .before .before .before .before .before .before .before .pre .1, growing-few _ _ _ _ _ _ _ _ _ (c .before .before .before .before .before .before .before .before .pre .0) _ _ _ _ (c .before .loop .inv .2)) in absurd z
+
+pub grow-spec : {M : Type 1} → statement M
+grow-spec =
+    tie.close
+    (tie.spec
+    Inv-loop
+    μ-loop
+    (λ c. search (needs, growing-start, passed-none))
+    (λ c. search needs) (λ c. search needs) (λ c κs. search needs) (λ c. search needs) (λ c κs. search needs)
+    (λ c κs. search needs)
+    (λ c κs. search needs) (λ c. search needs) (λ c. search needs) (λ c. search needs) (λ c. search needs)
+    returns
+    (λ c. search needs)
+    loop-again
+    (λ c. search needs) (λ c. search needs)
+    returns-2)
