@@ -1,6 +1,6 @@
 -- `color_admitted` meets its contract: the table is that of the graph.
+use mathlib.Core.Path.{refl, sym}
 use native.Mathlib.Omega.{arith}
-use borrow.Author.Needs.{needs}
 use Rattle.vizing.specs.Checks.{admitted-passed}
 use Rattle.misra_gries.proofs.color_admitted.Statement.{statement}
 use Rattle.misra_gries.proofs.color_admitted.Tie as tie
@@ -12,6 +12,6 @@ pub color-admitted-spec : {M : Type 1} → statement M
 color-admitted-spec =
     tie.close
     (tie.spec
-    (λ c. search needs) (λ c. search needs) (λ c κs. search needs) (λ c. search needs) (λ c. search needs)
+    (λ c. refl) (λ c. refl) (λ c κs. tt) (λ c. sym (c .before .before .before .incidence-front .kept .1 .1 .0)) (λ c. sym (c .before .before .before .before .incidence-front .kept .1 .1 .1 .0))
     color-simple-requires
-    (λ c. search needs) (λ c. search needs))
+    (λ c. c .before .before .color-simple .kept .1 .1 .1 .1 .0) (λ c. c .before .before .color-simple .ensures))

@@ -1,45 +1,41 @@
+-- `color_simple` meets its contract: the run's list and tally, read off.
 use mathlib.Core.Path.{refl, sym, ap, _∙_}
+use Prim.Native.Nat.{ℕ}
+use lib.ListN.{length-replicate}
 use lib.Seq.{length-take-le}
 use Rattle.lists.specs.Parts.{copied-same}
 use Rattle.graph.specs.Report.{accepted}
 use Rattle.misra_gries.specs.Run.{running-begin, running-room, running-done}
-use borrow.Author.Needs.{needs}
 use native.Mathlib.Omega.{arith}
-use borrow.Author.Needs.{needs}
 use Rattle.misra_gries.proofs.color_simple.Statement.{statement}
 use Rattle.misra_gries.proofs.color_simple.Tie as tie
-use Rattle.misra_gries.proofs.color_simple.Reads as reads
-use Rattle.misra_gries.proofs.color_simple.Lts as lts
-use Rattle.graph.proofs.copy_colors.Reads as copy-colors-reads
-use Rattle.misra_gries.proofs.days_of_tally.Reads as days-of-tally-reads
-use Rattle.misra_gries.proofs.run.run.Reads as run-reads
 
 slice-aggregate-run : tie.Need-slice-aggregate-run
-slice-aggregate-run c = search needs
+slice-aggregate-run c = sym (length-replicate {A = ℕ} 4096 65535)
 
 slice-aggregate-run-2 : tie.Need-slice-aggregate-run-2
-slice-aggregate-run-2 c = search needs
+slice-aggregate-run-2 c = sym (length-replicate {A = ℕ} 294912 65535)
 
 slice-aggregate-run-3 : tie.Need-slice-aggregate-run-3
-slice-aggregate-run-3 c = search needs
+slice-aggregate-run-3 c = sym (length-replicate {A = ℕ} 4096 0)
 
 run-requires : tie.Need-run-requires
 run-requires c κs = running-begin _ _ _ _ 294912 (c .before .before .before .before .before .before .before .pre .0) (c .before .before .before .before .before .before .before .pre .1 .0) refl
 
 array-share-prefix-work : tie.Need-array-share-prefix-work
-array-share-prefix-work c = search needs
+array-share-prefix-work c = running-room _ _ _ _ _ _ _ _ _ (c .before .before .before .run .ensures)
 
 slice-aggregate-copy-colors : tie.Need-slice-aggregate-copy-colors
 slice-aggregate-copy-colors c = sym (length-take-le _ _ (running-room _ _ _ _ _ _ _ _ _ (c .before .before .before .before .run .ensures)))
 
 copy-colors-requires : tie.Need-copy-colors-requires
-copy-colors-requires c κs = search needs
+copy-colors-requires c κs = tt
 
 days-of-tally-requires : tie.Need-days-of-tally-requires
-days-of-tally-requires c κs = search needs
+days-of-tally-requires c κs = tt
 
 same-length : tie.Need-same-length
-same-length c = search needs
+same-length c = c .before .before .before .copy-colors .kept .1 .0
 
 returns : tie.Need-returns
 returns c =

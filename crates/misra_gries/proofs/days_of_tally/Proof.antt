@@ -1,11 +1,8 @@
+-- `days_of_tally` meets its contract: its test is that of the promise.
 use borrow.Author.Tests.{eq-eqb, ne-eqb}
-use borrow.Author.Needs.{needs}
-use native.Mathlib.Omega.{arith}
 use borrow.Author.Needs.{needs}
 use Rattle.misra_gries.proofs.days_of_tally.Statement.{statement}
 use Rattle.misra_gries.proofs.days_of_tally.Tie as tie
-use Rattle.misra_gries.proofs.days_of_tally.Reads as reads
-use Rattle.misra_gries.proofs.days_of_tally.Lts as lts
 
 returns : tie.Need-returns
 returns c = simp (eq-eqb _ _ (c .if1 .taken))

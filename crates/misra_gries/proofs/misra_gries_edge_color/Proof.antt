@@ -31,13 +31,13 @@ pub misra-gries-edge-color-spec : {M : Type 1} → statement M
 misra-gries-edge-color-spec =
     tie.close
     (tie.spec
-    (λ c κs. search needs) (λ c. search needs)
+    (λ c κs. tt) (λ c. search needs)
     returns
     (λ c. search needs)
     returns-2
-    (λ c κs. search needs) (λ c. search needs)
+    (λ c κs. tt) (λ c. search needs)
     returns-3
     (λ c. search needs)
     color-admitted-requires
-    (λ c. search needs)
+    (λ c. c .before .before .color-admitted .kept .1 .1 .0)
     returns-4)

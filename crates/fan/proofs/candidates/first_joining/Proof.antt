@@ -21,7 +21,7 @@ first-joining-spec =
     (tie.spec
     Inv-loop
     μ-loop
-    (λ c. search needs) (λ c. search needs) (λ c. search needs) (λ c κs. search needs)
+    (λ c. search needs) (λ c. search needs) (λ c. search needs) (λ c κs. tt)
     (λ c. search (needs, first-here))
     (λ c. search needs) (λ c. search needs)
     (λ c. search (needs, first-next))

@@ -9,8 +9,8 @@ pub joins-spec : {M : Type 1} → statement M
 joins-spec =
     tie.close
     (tie.spec
-    (λ c κs. search needs)
+    (λ c κs. tt)
     (λ c. search (needs, uncolored-joins-not))
-    (λ c κs. search needs) (λ c κs. search needs)
+    (λ c κs. tt) (λ c κs. tt)
     (λ c. search (needs, free-joins))
     (λ c. search (needs, taken-joins-not)))

@@ -8,8 +8,8 @@ pub may-join-spec : {M : Type 1} → statement M
 may-join-spec =
     tie.close
     (tie.spec
-    (λ c κs. search needs)
+    (λ c κs. tt)
     (λ c. search (needs, marked-may-not))
-    (λ c κs. search needs)
+    (λ c κs. tt)
     (λ c. search (needs, uncolored-may-not))
     (λ c. search (needs, colored-may)))

@@ -21,7 +21,7 @@ skip-spec =
     Inv-loop
     μ-loop
     (λ c p. p)
-    (λ c. search needs) (λ c. search needs) (λ c κs. search needs)
+    (λ c. search needs) (λ c. search needs) (λ c κs. tt)
     (λ c. (c .before .before .before .before .loop .inv, λ h. cc))
     (λ c. search needs) (λ c. search needs)
     (λ c p. passed-more _ _ _ _ _ _ (c .before .before .before .before .loop .inv p) (c .before .before .before .loop-test .taken) (c .before .may-join .ensures) (c .if1 .left))

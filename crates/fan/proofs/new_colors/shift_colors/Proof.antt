@@ -26,7 +26,7 @@ shift-colors-spec =
     (λ c h b. let z : ⊥ = omega arith in absurd z)
     (λ c h b. let z : ⊥ = omega arith in absurd z)
     (λ c. (omega (arith, c .before .if1 .left), refl, rotated-start _ (c .before .before .before .before .before .args .fan .now) _ _ (omega (arith, c .before .if1 .left)) (c .if2 .left)))
-    (λ c. search needs) (λ c. search needs) (λ c. search needs) (λ c. search needs) (λ c κs. search needs) (λ c. search needs) (λ c. search needs) (λ c. search needs) (λ c. search needs)
+    (λ c. search needs) (λ c. search needs) (λ c. search needs) (λ c. search needs) (λ c κs. tt) (λ c. search needs) (λ c. search needs) (λ c. search needs) (λ c. search needs)
     (λ c. (search needs, search needs, search (needs, rotated-next)))
     (λ c. search needs) (λ c. search needs) (λ c. search needs)
     (λ c h b. search (needs, rotated-end)))

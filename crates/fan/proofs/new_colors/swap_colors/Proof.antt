@@ -25,7 +25,7 @@ swap-colors-spec =
     μ-loop
     (λ c h. let z : ⊥ = omega arith in absurd z)
     (λ c. search (needs, exchanged-start))
-    (λ c. search needs) (λ c. search needs) (λ c κs. search needs) (λ c κs. search needs) (λ c. search needs) (λ c. search needs) (λ c. search needs) (λ c. search needs)
+    (λ c. search needs) (λ c. search needs) (λ c κs. tt) (λ c κs. tt) (λ c. search needs) (λ c. search needs) (λ c. search needs) (λ c. search needs)
     (λ c. (search needs, search needs, search (needs, exchanged-next)))
     (λ c. search needs)
     (λ c h. search (needs, exchanged-end)))

@@ -37,9 +37,9 @@ follow-spec =
     Inv-loop
     μ-loop
     (λ c. search (needs, follow-start))
-    (λ c κs. search needs) (λ c. search needs) (λ c. search needs) (λ c. search needs)
+    (λ c κs. tt) (λ c. search needs) (λ c. search needs) (λ c. search needs)
     returns
-    (λ c. search needs) (λ c. search needs) (λ c κs. search needs) (λ c. search needs) (λ c. search needs)
+    (λ c. search needs) (λ c. search needs) (λ c κs. tt) (λ c. search needs) (λ c. search needs)
     loop-again
     (λ c. search needs)
     returns-2)

@@ -21,8 +21,8 @@ places-to-spec =
     (tie.spec
     Inv-loop
     μ-loop
-    (λ c. search needs) (λ c κs. search needs)
+    (λ c. search needs) (λ c κs. tt)
     (λ c. search (needs, places-found))
-    (λ c. search needs) (λ c. search needs) (λ c κs. search needs) (λ c. search needs) (λ c. search needs)
+    (λ c. search needs) (λ c. search needs) (λ c κs. tt) (λ c. search needs) (λ c. search needs)
     (λ c. search (needs, places-next))
     (λ c. search (needs, places-end)))

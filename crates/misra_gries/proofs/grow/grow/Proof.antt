@@ -1,7 +1,7 @@
 -- `grow` meets its contract. The invariant: `len` edges of the fan are written and marked, `next` is the one after them, and no
 -- candidate before lo may join.
 use Prim.Native.Nat.{_-_}
-use mathlib.Core.Path.{_≡_}
+use mathlib.Core.Path.{_≡_, refl, _∙_}
 use native.Mathlib.Omega.{arith}
 use lib.ListN.{length}
 use borrow.Author.Needs.{needs}
@@ -31,7 +31,7 @@ returns c =
     let passed = skip-place .skip .ensures .0 (growing-passed _ _ _ _ _ _ _ _ _ ready _ _ _ _ (turn .before .loop .inv .2) _ (mark-place .set-mark .ensures) _ (turn .before .loop .inv .3)) in (
       growing-stop _ _ _ _ _ _ _ _ _ ready _ _ _ _ (turn .before .loop .inv .2) _ (mark-place .set-mark .ensures) (turn .loop-test .taken) _ (far-place .far-end .ensures) _
           passed _ (search-place .first-joining .ensures) (c .enum-told .given .1),
-      (search (needs, growing-few), search (needs, growing-low)),
+      (growing-few _ _ _ _ _ _ _ _ _ ready _ _ _ _ (turn .before .loop .inv .2), growing-low _ _ _ _ _ _ _ _ _ ready _ _ _ _ (turn .before .loop .inv .2) _ (mark-place .set-mark .ensures)),
     )
 
 loop-again : tie.Need-loop-again Inv-loop μ-loop
@@ -44,7 +44,7 @@ loop-again c =
     let ready = turn .before .before .before .before .before .before .before .before .pre .0 in
     let passed = skip-place .skip .ensures .0 (growing-passed _ _ _ _ _ _ _ _ _ ready _ _ _ _ (turn .before .loop .inv .2) _ (mark-place .set-mark .ensures) _ (turn .before .loop .inv .3)) in (
       search needs,
-      search needs,
+      mark-place .set-mark .kept .0 ∙ turn .before .loop .inv .1,
       growing-more _ _ _ _ _ _ _ _ _ ready _ _ _ _ (turn .before .loop .inv .2) _ (mark-place .set-mark .ensures) (turn .loop-test .taken) _ (far-place .far-end .ensures) _
           passed _ (search-place .first-joining .ensures) _ (c .before .joining .given .1),
       passed,
@@ -60,10 +60,8 @@ grow-spec =
     (tie.spec
     Inv-loop
     μ-loop
-    (λ c. search (needs, growing-start, passed-none))
-    (λ c. search needs) (λ c. search needs) (λ c κs. search needs) (λ c. search needs) (λ c κs. search needs)
-    (λ c κs. search needs)
-    (λ c κs. search needs) (λ c. search needs) (λ c. search needs) (λ c. search needs) (λ c. search needs)
+    (λ c. (refl, refl, growing-start _ _ _ _ _ _ _ _ _ (c .before .before .before .before .before .before .pre .0) _, passed-none _ _ _ _))
+    (λ c. search needs) (λ c. search needs) (λ c κs. tt) (λ c. search needs) (λ c κs. tt) (λ c κs. tt) (λ c κs. tt) (λ c. search needs) (λ c. search needs) (λ c. search needs) (λ c. search needs)
     returns
     (λ c. search needs)
     loop-again

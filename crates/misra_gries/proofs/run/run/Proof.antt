@@ -1,16 +1,13 @@
+-- `run` meets its contract. The invariant: after k edges the working list is what the definition holds, and the tally is that of the edges so far.
 use Prim.Native.Nat.{_-_}
-use mathlib.Core.Path.{_≡_}
+use mathlib.Core.Path.{_≡_, refl, _∙_}
 use lib.ListN.{length}
 use Rattle.misra_gries.specs.Run.{Running, running-ready, running-more}
-use mathlib.Core.Path.{refl}
 use Rattle.graph.specs.Edges.{edgeCount}
 use borrow.Author.Needs.{needs}
 use native.Mathlib.Omega.{arith}
 use Rattle.misra_gries.proofs.run.run.Statement.{statement}
 use Rattle.misra_gries.proofs.run.run.Tie as tie
-use Rattle.misra_gries.proofs.run.run.Reads as reads
-use Rattle.misra_gries.proofs.run.run.Lts as lts
-use Rattle.misra_gries.proofs.tally.step_kept.Reads as step-kept-reads
 
 abbrev Inv-loop : tie.InvT-loop
 Inv-loop n ends starts entries work₀ table₀ marks₀ m tally₀ k₀ work table marks tally k = Running n ends starts entries work table marks tally k × (length work ≡ length work₀) × (length table ≡ length table₀) × (length marks ≡ length marks₀)
@@ -34,16 +31,16 @@ loop-less : tie.Need-loop-less Inv-loop μ-loop
 loop-less c = search needs
 
 loop-again : tie.Need-loop-again Inv-loop μ-loop
-loop-again c = (running-more _ _ _ _ _ _ _ _ _ (c .before .before .before .before .before .before .before .before .before .before .before .loop .inv .0) _ _ _ _ (c .before .before .before .before .before .before .before .before .before .before .loop-test .taken) (c .before .before .before .before .before .before .step-kept .ensures), search needs, search needs, search needs)
+loop-again c = (running-more _ _ _ _ _ _ _ _ _ (c .before .before .before .before .before .before .before .before .before .before .before .loop .inv .0) _ _ _ _ (c .before .before .before .before .before .before .before .before .before .before .loop-test .taken) (c .before .before .before .before .before .before .step-kept .ensures), c .before .before .before .before .before .before .step-kept .kept .1 .1 .1 .1 .1 .0 ∙ c .before .before .before .before .before .before .before .before .before .before .before .loop .inv .1, c .before .before .before .before .before .before .step-kept .kept .1 .1 .1 .1 .1 .1 .0 ∙ c .before .before .before .before .before .before .before .before .before .before .before .loop .inv .2, c .before .before .before .before .before .before .step-kept .kept .1 .1 .1 .1 .1 .1 .1 .0 ∙ c .before .before .before .before .before .before .before .before .before .before .before .loop .inv .3)
 
 same-length : tie.Need-same-length Inv-loop μ-loop
-same-length c = search needs
+same-length c = c .before .loop .inv .1
 
 same-length-2 : tie.Need-same-length-2 Inv-loop μ-loop
-same-length-2 c = search needs
+same-length-2 c = c .before .loop .inv .2
 
 same-length-3 : tie.Need-same-length-3 Inv-loop μ-loop
-same-length-3 c = search needs
+same-length-3 c = c .before .loop .inv .3
 
 returns : tie.Need-returns Inv-loop μ-loop
 returns c = let i = c .before .loop .inv .0 in let e : c .before .loop .k ≡ edgeCount (c .before .before .before .before .before .before .before .before .args .ends .now) = omega (arith, i .bound, c .loop-test .left) in rw e at i

@@ -37,11 +37,11 @@ exchange-edges-spec =
     (tie.spec
     (λ c. search needs)
     slice-aggregate-follow
-    (λ c κs. search needs)
+    (λ c κs. tt)
     (λ c. followed (c .before .before) .inside) (λ c. followed (c .before .before .before) .filled)
-    (λ c. search needs) (λ c κs. search needs)
+    (λ c. refl) (λ c κs. tt)
     (λ c. followed (c .before .before .before .before .before .before .before .before) .inside) (λ c. followed (c .before .before .before .before .before .before .before .before .before) .filled)
     (λ c. room (c .before .before .before .before))
     slice-aggregate-repaint-2
-    (λ c κs. search needs) (λ c. search needs) (λ c. search needs)
+    (λ c κs. tt) (λ c. c .before .before .before .before .repaint .kept .1 .0) (λ c. c .before .before .before .before .repaint .kept .1 .1 .0)
     returns)

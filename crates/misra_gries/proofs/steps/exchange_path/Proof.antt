@@ -1,5 +1,5 @@
 -- `exchange_path` meets its contract: where d is free there is no path.
-use borrow.Author.Needs.{needs}
+use mathlib.Core.Path.{refl}
 use Rattle.misra_gries.specs.StepLaws.{path-empty}
 use Rattle.misra_gries.proofs.steps.exchange_path.Statement.{statement}
 use Rattle.misra_gries.proofs.steps.exchange_path.Tie as tie
@@ -11,6 +11,6 @@ pub exchange-path-spec : {M : Type 1} → statement M
 exchange-path-spec =
     tie.close
     (tie.spec
-    (λ c κs. search needs) (λ c. search needs)
+    (λ c κs. tt) (λ c. refl)
     returns
-    (λ c κs. search needs) (λ c. search needs) (λ c. search needs) (λ c. search needs))
+    (λ c κs. c .before .before .before .before .before .before .before .before .pre) (λ c. c .before .before .before .before .exchange-edges .kept .1 .1 .0) (λ c. c .before .before .before .before .exchange-edges .kept .1 .1 .1 .0) (λ c. c .before .before .before .before .exchange-edges .ensures))

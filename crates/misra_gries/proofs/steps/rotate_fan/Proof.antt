@@ -1,5 +1,5 @@
 -- `rotate_fan` meets its contract: a fan of one place takes d.
-use borrow.Author.Needs.{needs}
+use mathlib.Core.Path.{refl}
 use Rattle.misra_gries.specs.StepLaws.{fan-of-one}
 use Rattle.misra_gries.proofs.steps.rotate_fan.Statement.{statement}
 use Rattle.misra_gries.proofs.steps.rotate_fan.Tie as tie
@@ -11,6 +11,6 @@ pub rotate-fan-spec : {M : Type 1} → statement M
 rotate-fan-spec =
     tie.close
     (tie.spec
-    (λ c. search needs) (λ c κs. search needs) (λ c. search needs) (λ c. search needs)
+    (λ c. refl) (λ c κs. tt) (λ c. c .before .before .before .before .repaint .kept .1 .0) (λ c. c .before .before .before .before .repaint .kept .1 .1 .0)
     returns
-    (λ c κs. search needs) (λ c. search needs) (λ c. search needs) (λ c. search needs))
+    (λ c κs. c .before .before .before .before .before .before .before .pre) (λ c. c .before .before .before .before .rotate-places .kept .1 .0) (λ c. c .before .before .before .before .rotate-places .kept .1 .1 .0) (λ c. c .before .before .before .before .rotate-places .ensures))

@@ -1,16 +1,10 @@
+-- `turn` meets its contract: c and d as the table has them, the path exchanged, the fan rotated up to w.
 use Rattle.misra_gries.specs.StepLaws.{turn-fan, turn-exchanging, turn-count, turn-rotating, turned, top-none, top-some}
+use mathlib.Core.Path.{_∙_}
 use borrow.Author.Needs.{needs}
 use native.Mathlib.Omega.{arith}
-use borrow.Author.Needs.{needs}
 use Rattle.misra_gries.proofs.steps.turn.Statement.{statement}
 use Rattle.misra_gries.proofs.steps.turn.Tie as tie
-use Rattle.misra_gries.proofs.steps.turn.Reads as reads
-use Rattle.misra_gries.proofs.steps.turn.Lts as lts
-use Rattle.edge_table.proofs.smallest_free.Reads as smallest-free-reads
-use Rattle.graph.proofs.far_end.Reads as far-end-reads
-use Rattle.fan.proofs.places_to.Reads as places-to-reads
-use Rattle.misra_gries.proofs.steps.exchange_path.Reads as exchange-path-reads
-use Rattle.misra_gries.proofs.steps.rotate_fan.Reads as rotate-fan-reads
 
 sub-last : tie.Need-sub-last
 sub-last c = turn-fan _ _ _ _ _ _ _ _ (c .before .before .before .before .pre)
@@ -22,19 +16,19 @@ shared-slice-read-t17 : tie.Need-shared-slice-read-t17
 shared-slice-read-t17 c = omega (arith, turn-fan _ _ _ _ _ _ _ _ (c .before .before .before .before .before .pre))
 
 far-end-requires : tie.Need-far-end-requires
-far-end-requires c κs = search needs
+far-end-requires c κs = tt
 
 smallest-free-requires : tie.Need-smallest-free-requires
-smallest-free-requires c κs = search needs
+smallest-free-requires c κs = tt
 
 smallest-free-requires-2 : tie.Need-smallest-free-requires-2
-smallest-free-requires-2 c κs = search needs
+smallest-free-requires-2 c κs = tt
 
 exchange-path-requires : tie.Need-exchange-path-requires
 exchange-path-requires c κs = turn-exchanging _ _ _ _ _ _ _ _ (c .before .before .before .before .before .before .before .before .before .before .before .before .pre) _ _ _ (c .before .before .before .before .before .before .far-end .ensures) (c .before .before .before .before .smallest-free .ensures) (c .before .before .smallest-free2 .ensures)
 
 places-to-requires : tie.Need-places-to-requires
-places-to-requires c κs = search needs
+places-to-requires c κs = tt
 
 slice-aggregate-rotate-fan : tie.Need-slice-aggregate-rotate-fan
 slice-aggregate-rotate-fan c = turn-count _ _ _ _ _ _ _ _ (c .before .before .before .before .before .before .before .before .before .before .before .before .before .before .before .before .before .before .before .before .before .before .pre) _ _ _ (c .before .before .before .before .before .before .before .before .before .before .before .before .before .before .before .before .far-end .ensures) (c .before .before .before .before .before .before .before .before .before .before .before .before .before .before .smallest-free .ensures) (c .before .before .before .before .before .before .before .before .before .before .before .before .smallest-free2 .ensures) _ _ (c .before .before .before .before .before .before .before .before .before .exchange-path .ensures .1) _ (c .before .before .before .places-to .ensures)
@@ -43,19 +37,19 @@ rotate-fan-requires : tie.Need-rotate-fan-requires
 rotate-fan-requires c κs = turn-rotating _ _ _ _ _ _ _ _ (c .before .before .before .before .before .before .before .before .before .before .before .before .before .before .before .before .before .before .before .before .before .before .pre) _ _ _ (c .before .before .before .before .before .before .before .before .before .before .before .before .before .before .before .before .far-end .ensures) (c .before .before .before .before .before .before .before .before .before .before .before .before .before .before .smallest-free .ensures) (c .before .before .before .before .before .before .before .before .before .before .before .before .smallest-free2 .ensures) _ _ (c .before .before .before .before .before .before .before .before .before .exchange-path .ensures .1) _ (c .before .before .before .places-to .ensures)
 
 same-length : tie.Need-same-length
-same-length c = search needs
+same-length c = c .before .before .before .before .before .rotate-fan .kept .1 .0 ∙ c .before .before .before .before .before .before .before .before .before .before .before .before .before .before .before .exchange-path .kept .1 .1 .0
 
 same-length-2 : tie.Need-same-length-2
-same-length-2 c = search needs
+same-length-2 c = c .before .before .before .before .before .rotate-fan .kept .1 .1 .0 ∙ c .before .before .before .before .before .before .before .before .before .before .before .before .before .before .before .exchange-path .kept .1 .1 .1 .0
 
 returns : tie.Need-returns
 returns c = turned _ _ _ _ _ _ _ _ (c .before .before .before .before .before .before .before .before .before .before .before .before .before .before .before .before .before .before .before .before .before .before .before .before .before .before .before .before .pre) _ _ _ (c .before .before .before .before .before .before .before .before .before .before .before .before .before .before .before .before .before .before .before .before .before .before .far-end .ensures) (c .before .before .before .before .before .before .before .before .before .before .before .before .before .before .before .before .before .before .before .before .smallest-free .ensures) (c .before .before .before .before .before .before .before .before .before .before .before .before .before .before .before .before .before .before .smallest-free2 .ensures) _ _ (c .before .before .before .before .before .before .before .before .before .before .before .before .before .before .before .exchange-path .ensures .1) _ (c .before .before .before .before .before .before .before .before .before .places-to .ensures) _ _ _ (c .before .before .before .before .before .rotate-fan .ensures) (top-none _ _ _ _ _ _ _ _ (c .before .before .before .before .before .before .before .before .before .before .before .before .before .before .before .before .before .before .before .before .before .before .before .before .before .before .before .before .pre) _ _ _ (c .before .before .before .before .before .before .before .before .before .before .before .before .before .before .before .before .before .before .before .before .before .before .far-end .ensures) (c .before .before .before .before .before .before .before .before .before .before .before .before .before .before .before .before .before .before .before .before .smallest-free .ensures) (c .before .before .before .before .before .before .before .before .before .before .before .before .before .before .before .before .before .before .smallest-free2 .ensures) _ (c .before .before .before .before .before .before .before .before .before .before .before .before .before .before .before .exchange-path .ensures .0) (c .if1 .taken))
 
 same-length-3 : tie.Need-same-length-3
-same-length-3 c = search needs
+same-length-3 c = c .before .before .before .before .before .rotate-fan .kept .1 .0 ∙ c .before .before .before .before .before .before .before .before .before .before .before .before .before .before .before .exchange-path .kept .1 .1 .0
 
 same-length-4 : tie.Need-same-length-4
-same-length-4 c = search needs
+same-length-4 c = c .before .before .before .before .before .rotate-fan .kept .1 .1 .0 ∙ c .before .before .before .before .before .before .before .before .before .before .before .before .before .before .before .exchange-path .kept .1 .1 .1 .0
 
 returns-2 : tie.Need-returns-2
 returns-2 c = turned _ _ _ _ _ _ _ _ (c .before .before .before .before .before .before .before .before .before .before .before .before .before .before .before .before .before .before .before .before .before .before .before .before .before .before .before .before .pre) _ _ _ (c .before .before .before .before .before .before .before .before .before .before .before .before .before .before .before .before .before .before .before .before .before .before .far-end .ensures) (c .before .before .before .before .before .before .before .before .before .before .before .before .before .before .before .before .before .before .before .before .smallest-free .ensures) (c .before .before .before .before .before .before .before .before .before .before .before .before .before .before .before .before .before .before .smallest-free2 .ensures) _ _ (c .before .before .before .before .before .before .before .before .before .before .before .before .before .before .before .exchange-path .ensures .1) _ (c .before .before .before .before .before .before .before .before .before .places-to .ensures) _ _ _ (c .before .before .before .before .before .rotate-fan .ensures) (top-some _ _ _ _ _ _ _ _ (c .before .before .before .before .before .before .before .before .before .before .before .before .before .before .before .before .before .before .before .before .before .before .before .before .before .before .before .before .pre) _ _ _ (c .before .before .before .before .before .before .before .before .before .before .before .before .before .before .before .before .before .before .before .before .before .before .far-end .ensures) (c .before .before .before .before .before .before .before .before .before .before .before .before .before .before .before .before .before .before .before .before .smallest-free .ensures) (c .before .before .before .before .before .before .before .before .before .before .before .before .before .before .before .before .before .before .smallest-free2 .ensures) _ (c .before .before .before .before .before .before .before .before .before .before .before .before .before .before .before .exchange-path .ensures .0) (c .if1 .left))

@@ -1,3 +1,4 @@
+-- `noted` meets its contract: its test is that of the promise.
 use borrow.Author.Needs.{needs}
 use borrow.Author.Tests.{lt-ltb, le-ltb}
 use Rattle.misra_gries.proofs.tally.noted.Statement.{statement}
