@@ -22,18 +22,9 @@ use Rattle.graph.specs.Colored.{colorOf}
 use Rattle.graph.specs.ColoredLaws.{color-read}
 use Rattle.greedy.specs.Turn.{uncolored}
 use Rattle.greedy.specs.IndependentSet.{takeOut, Lists, putOff, putOffAll, Round, putOffPresets, colorListed, round, rounds, independentSetColors}
-use Rattle.independent_set.specs.Listing.{Listing, Held, listsAt, length-items, place-item, item-at, taken-out}
+use Rattle.listing.specs.Listing.{Listing, Held, listsAt, lists-held, held-at, put-off-yes, put-off-no, length-items, place-item, item-at, taken-out}
 
--- ---- what the arrays hold
-
-pub lists-held : (n : ℕ) (listed place next : List ℕ) (len end : ℕ) (s : Lists) → Held n listed place next len end s → listsAt listed next len end ≡ s
-lists-held n listed place next len end s h = ap₂ (λ (a b : List ℕ). record { listed = a; next = b }) (h .first .held) (h .second .held)
-
-pub held-at : (n : ℕ) (listed place next : List ℕ) (len end : ℕ) (s : Lists) → Held n listed place next len end s → Held n listed place next len end (listsAt listed next len end)
-held-at n listed place next len end s h = rw (lists-held n listed place next len end s h) h
-
-pub listing-at : (n : ℕ) (listed place : List ℕ) (len : ℕ) (items : List ℕ) → Listing n listed place len items → Listing n listed place len (take len listed)
-listing-at n listed place len items l = rw (l .held) l
+-- ---- a copy of the front
 
 -- A copy of the front is listed as well.
 listing-copied : (n : ℕ) (listed place : List ℕ) (len : ℕ) (items : List ℕ) → Listing n listed place len items → (copy : List ℕ) → length copy ≡ 4096 → take len copy ≡ take len listed → Listing n copy place len (take len copy)
@@ -55,16 +46,6 @@ unfolding copiedOver
 copied-front len from to a b =
     let l = length-take-le len from a in
     rw (take-all (length to) (take len from) (omega arith), l) (ap (λ (i : ℕ). take i (take len from ++ drop len to)) (sym l) ∙ take-append-seam (take len from) (drop len to))
-
--- ---- putting off one item
-
-pub put-off-yes : (s : Lists) (v : ℕ) → elem v (s .listed) ≡ true → putOff s v ≡ record { listed = takeOut v (s .listed); next = s .next ++ v ∷ [] }
-unfolding putOff
-put-off-yes s v e = rw e
-
-pub put-off-no : (s : Lists) (v : ℕ) → elem v (s .listed) ≡ false → putOff s v ≡ s
-unfolding putOff
-put-off-no s v e = rw e
 
 -- ---- the neighbours of a node
 

@@ -6,6 +6,3 @@ pub struct Items {
     pub nodes: usize,
     pub count: usize,
 }
-
-// An item's number, a node's or an edge's.
-pub struct Item(pub u16);

@@ -14,10 +14,10 @@ use graph::days_of;
 use greedy::check_edges;
 use greedy::check_nodes;
 use incidence::incidence_front;
+use listing::list_uncolored;
 
 mod edges;
 mod items;
-mod listing;
 mod rounds;
 
 // The items of a graph that passed the checks, with a preset and a colour for each.
@@ -33,7 +33,7 @@ fn color_checked(items: Items, ends: &[u16], presets: &[u16], colors: &mut [u16]
     let mut next = [0u16; 4096];
     incidence_front(items.nodes, ends, &mut starts, &mut entries);
     copy_colors(presets, colors);
-    let len = listing::list_uncolored(items.count, presets, &mut listed, &mut place);
+    let len = list_uncolored(presets, &mut listed, &mut place);
     rounds::color_rounds(
         items,
         ends,

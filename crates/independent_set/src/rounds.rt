@@ -7,20 +7,20 @@ ghost use Rattle.graph.specs.Edges.{edgeCount, neighbors};
 ghost use Rattle.graph.specs.StretchLaws.{Table};
 ghost use Rattle.greedy.specs.IndependentSet.{putOffAll, putOffPresets, colorListed, rounds};
 ghost use Rattle.independent_set.specs.Items.{neighborsOf, Tabled};
-ghost use Rattle.independent_set.specs.Listing.{Listing, Held, listsAt};
+ghost use Rattle.listing.specs.Listing.{Listing, Held, listsAt};
 ghost use Rattle.independent_set.specs.Rounds.{Rounded};
 use crate::edges::put_off_sharing;
-use crate::items::Item;
 use crate::items::Items;
-use crate::listing::Counts;
-use crate::listing::put_off;
-use crate::listing::take_out;
 use graph::Color;
 use graph::EdgeIndex;
 use graph::NodeIndex;
 use graph::copy_colors;
 use graph::edges_at;
 use graph::far_end;
+use listing::Counts;
+use listing::Item;
+use listing::put_off;
+use listing::take_out;
 
 // The listed neighbours of a node are put off, in incidence order.
 fn put_off_far_ends(
@@ -46,7 +46,7 @@ fn put_off_far_ends(
     let mut i = 0;
     while i < edges.len() {
         let far = far_end(ends, EdgeIndex(edges[i]), node);
-        reached = put_off(n, listed, place, next, reached, Item(far.0));
+        reached = put_off(listed, place, next, reached, Item(far.0));
         i += 1;
     }
     reached
@@ -147,7 +147,7 @@ fn color_listed(
         let front = Item(listed[0]);
         let v = front.0 as usize;
         colors[v] = color.0;
-        take_out(items.count, listed, place, len, front);
+        take_out(listed, place, len, front);
         reached = put_off_neighbors(
             items,
             ends,

@@ -1,7 +1,8 @@
 -- `put_off_sharing` meets its contract: the edges after it, then those before it, are the neighbours in the line list.
 use borrow.Author.Needs.{needs}
-use Rattle.independent_set.specs.Rounds.{held-at}
-use Rattle.independent_set.specs.Edges.{both-sides, put-off-same, put-off-then}
+use Rattle.listing.specs.Listing.{held-at}
+use Rattle.listing.specs.Edges.{put-off-same, put-off-then}
+use Rattle.independent_set.specs.Edges.{both-sides}
 use Rattle.independent_set.proofs.edges.put_off_sharing.Statement.{statement}
 use Rattle.independent_set.proofs.edges.put_off_sharing.Tie as tie
 

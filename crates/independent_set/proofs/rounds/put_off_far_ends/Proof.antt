@@ -6,8 +6,8 @@ use lib.ListN.{length, take}
 use borrow.Author.Needs.{needs}
 use Rattle.graph.specs.Edges.{farEnd}
 use Rattle.greedy.specs.IndependentSet.{putOffAll}
-use Rattle.independent_set.specs.Listing.{Held, listsAt}
-use Rattle.independent_set.specs.Rounds.{held-at, neighbor-below, neighbors-done, neighbors-more, neighbors-none}
+use Rattle.listing.specs.Listing.{Held, listsAt, held-at}
+use Rattle.independent_set.specs.Rounds.{neighbor-below, neighbors-done, neighbors-more, neighbors-none}
 use Rattle.independent_set.proofs.rounds.put_off_far_ends.Statement.{statement}
 use Rattle.independent_set.proofs.rounds.put_off_far_ends.Tie as tie
 
@@ -20,11 +20,14 @@ abbrev μ-loop : tie.MeasureT-loop
 loop-holds : tie.Need-loop-holds Inv-loop μ-loop
 loop-holds c = search (needs, neighbors-none)
 
-put-off-requires : tie.Need-put-off-requires Inv-loop μ-loop
-put-off-requires c κs = (held-at _ _ _ _ _ _ _ (c .before .before .before .before .before .before .loop .inv .1), neighbor-below _ _ _ _ _ _ (c .before .before .before .before .before .before .before .before .before .before .before .before .before .before .pre .0) (c .before .before .before .before .before .before .before .before .before .before .before .before .before .before .pre .1 .0) (c .before .before .before .before .before .before .before .before .before .before .before .before .before .before .pre .1 .1 .1) (c .before .before .before .before .before .before .before .edges-at .ensures .0) _ _ (c .before .before .before .before .before .loop-test .taken) (c .before .before .before .far-end .ensures))
-
 loop-again : tie.Need-loop-again Inv-loop μ-loop
-loop-again c = (omega arith, neighbors-more _ _ _ _ _ _ _ _ _ _ _ _ _ _ _ _ _ (c .before .before .before .before .before .before .before .before .before .before .before .before .before .loop .inv .1) (c .before .before .before .before .before .before .before .before .before .before .before .before .loop-test .taken) (c .before .before .before .before .before .before .before .before .before .before .far-end .ensures) (c .before .before .before .before .before .before .put-off .ensures))
+loop-again c =
+    let pre = c .before .before .before .before .before .before .before .before .before .before .before .before .before .before .before .before .before .before .before .before .before .pre in
+    let k = c .before .before .before .before .before .before .before .before .before .before .before .before .before .loop .inv .1 in
+    let t = c .before .before .before .before .before .before .before .before .before .before .before .before .loop-test .taken in
+    let f = c .before .before .before .before .before .before .before .before .before .before .far-end .ensures in
+    let b = neighbor-below _ _ _ _ _ _ (pre .0) (pre .1 .0) (pre .1 .1 .1) (c .before .before .before .before .before .before .before .before .before .before .before .before .before .before .edges-at .ensures .0) _ _ t f in
+    (omega arith, neighbors-more _ _ _ _ _ _ _ _ _ _ _ _ _ _ _ _ _ k t f (c .before .before .before .before .before .before .put-off .ensures _ (held-at _ _ _ _ _ _ _ k) b))
 
 returns : tie.Need-returns Inv-loop μ-loop
 returns c = neighbors-done _ _ _ _ _ _ (c .before .before .before .before .before .before .before .before .before .pre .0) (c .before .before .before .before .before .before .before .before .before .pre .1 .0) (c .before .before .before .before .before .before .before .before .before .pre .1 .1 .1) (c .before .before .edges-at .ensures .0) _ _ _ _ _ _ _ (c .loop-test .left) (c .before .loop .inv .1)
@@ -38,7 +41,7 @@ put-off-far-ends-spec =
     (λ c κs. search needs)
     loop-holds
     (λ c. search needs) (λ c. search needs) (λ c κs. search needs)
-    put-off-requires
+    (λ c κs. search needs)
     (λ c. search needs) (λ c. search needs)
     loop-again
     (λ c. search needs) (λ c. search needs) (λ c. search needs)

@@ -1,6 +1,6 @@
 -- The list of uncoloured items as the code holds it, and what taking out and putting off do to it.
 use Prim.Native.Nat.{ℕ, suc, _+_, _-_, _≤_, _<_}
-use mathlib.Core.Path.{_≡_, refl, sym, ap, subst, _∙_}
+use mathlib.Core.Path.{_≡_, refl, sym, ap, ap₂, subst, _∙_}
 use mathlib.Core.Logic.{inl, inr, _≢_}
 use mathlib.Core.List.{List, [], _∷_, _++_, append-nil}
 use mathlib.Core.Bool.{Bool, true, false}
@@ -37,6 +37,17 @@ pub record Held (n : ℕ) (listed place next : List ℕ) (len end : ℕ) (s : Li
 -- What two arrays hold.
 abbrev pub listsAt : List ℕ → List ℕ → ℕ → ℕ → Lists
 listsAt listed next len end = record { listed = take len listed; next = take end next }
+
+-- ---- what the arrays hold
+
+pub lists-held : (n : ℕ) (listed place next : List ℕ) (len end : ℕ) (s : Lists) → Held n listed place next len end s → listsAt listed next len end ≡ s
+lists-held n listed place next len end s h = ap₂ (λ (a b : List ℕ). record { listed = a; next = b }) (h .first .held) (h .second .held)
+
+pub held-at : (n : ℕ) (listed place next : List ℕ) (len end : ℕ) (s : Lists) → Held n listed place next len end s → Held n listed place next len end (listsAt listed next len end)
+held-at n listed place next len end s h = rw (lists-held n listed place next len end s h) h
+
+pub listing-at : (n : ℕ) (listed place : List ℕ) (len : ℕ) (items : List ℕ) → Listing n listed place len items → Listing n listed place len (take len listed)
+listing-at n listed place len items l = rw (l .held) l
 
 -- ---- one list
 
@@ -230,6 +241,14 @@ module _ (n : ℕ) (listed place next : List ℕ) (len end : ℕ) (s : Lists) (h
       }
 
 -- ---- putting off
+
+pub put-off-yes : (s : Lists) (v : ℕ) → elem v (s .listed) ≡ true → putOff s v ≡ record { listed = takeOut v (s .listed); next = s .next ++ v ∷ [] }
+unfolding putOff
+put-off-yes s v e = rw e
+
+pub put-off-no : (s : Lists) (v : ℕ) → elem v (s .listed) ≡ false → putOff s v ≡ s
+unfolding putOff
+put-off-no s v e = rw e
 
 module _ (n : ℕ) (listed place next : List ℕ) (len end : ℕ) (s : Lists) (h : Held n listed place next len end s) (v : ℕ) (r : Bool) (e : r ≡ elem v (s .listed)) where
   pub put-off-listed : r ≡ true → (listed′ place′ : List ℕ) → listed′ ≡ set listed (getD place v 0) (getD listed (len - 1) 0) → place′ ≡ set place (getD listed (len - 1) 0) (getD place v 0)

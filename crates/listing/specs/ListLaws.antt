@@ -13,8 +13,7 @@ use Rattle.lists.specs.Tests.{by-test, dec-eq}
 use Rattle.lists.specs.Member.{Mem, Nodup, elem, elem-true, elem-false, mem-getD, place-of, mem-append, mem-append-left, mem-append-right, nodup-append}
 use Rattle.graph.specs.Colored.{colorOf}
 use Rattle.greedy.specs.IndependentSet.{placeOf, takeOut, Lists, putOff, putOffAll, putOffPresets}
-use Rattle.independent_set.specs.Listing.{place-found}
-use Rattle.independent_set.specs.Rounds.{put-off-yes, put-off-no}
+use Rattle.listing.specs.Listing.{place-found, put-off-yes, put-off-no}
 
 -- ---- lists without repeats, by place
 

@@ -4,9 +4,9 @@ use mathlib.Core.Path.{_≡_}
 use lib.ListN.{length, drop}
 use borrow.Author.Needs.{needs}
 use Rattle.greedy.specs.IndependentSet.{placeOf}
-use Rattle.independent_set.specs.Edges.{place-start, place-here, place-more, place-end}
-use Rattle.independent_set.proofs.edges.place_of.Statement.{statement}
-use Rattle.independent_set.proofs.edges.place_of.Tie as tie
+use Rattle.listing.specs.Edges.{place-start, place-here, place-more, place-end}
+use Rattle.listing.proofs.edges.place_of.Statement.{statement}
+use Rattle.listing.proofs.edges.place_of.Tie as tie
 
 abbrev Inv-loop : tie.InvT-loop
 Inv-loop edges edge i₀ i = (i ≤ length edges) × (placeOf (edge .0) (drop i edges) + i ≡ placeOf (edge .0) edges)
