@@ -31,29 +31,22 @@ pub items-few : (items : Items) (ends : List ℕ) → Passed (items .nodes) ends
 unfolding countOf
 items-few items ends p e = by-test (items .edges) (λ t. omega (arith, rw t at e, p .edges)) (λ t. omega (arith, rw t at e, p .nodes))
 
--- ---- by kind: what a walk over the neighbours asks for, and what it leaves
+-- ---- by kind: what a walk over the neighbours leaves
 
-module _ (items : Items) (ends starts entries : List ℕ) (known : Tabled items ends starts entries) (s : Lists) (listed place next : List ℕ) (len end v : ℕ) where
-  module _ (e : items .edges ≡ true) where
-    edges-all : items .count ≡ edgeCount ends
-    unfolding countOf
-    edges-all = rw e at (known .all)
+module _ (items : Items) (ends starts entries : List ℕ) (known : Tabled items ends starts entries) (s : Lists) (listed place next listed′ place′ next′ : List ℕ) (len end len′ end′ v : ℕ)
+    (held : Held (items .count) listed place next len end s) (less : v < items .count) where
+  pub edges-left : items .edges ≡ true
+      → ((n : ℕ) → Passed n ends → Table ends n starts entries → v < edgeCount ends → Held (edgeCount ends) listed place next len end s → Held (edgeCount ends) listed′ place′ next′ len′ end′ (putOffAll s (edgeNeighbors n ends v)))
+      → Held (items .count) listed′ place′ next′ len′ end′ (putOffAll s (neighborsOf items ends v))
+  unfolding neighborsOf countOf
+  edges-left e walk =
+      let all : items .count ≡ edgeCount ends = rw e at (known .all) in
+      rw (all, e) (walk (items .nodes) (known .passed) (known .table) (rw all at less) (rw all at held))
 
-    pub edges-asked : Held (items .count) listed place next len end s → v < items .count → Held (edgeCount ends) listed place next len end s × (v < edgeCount ends)
-    edges-asked h l = rw (← edges-all) (h, l)
-
-    pub edges-left : Held (edgeCount ends) listed place next len end (putOffAll s (edgeNeighbors (items .nodes) ends v)) → Held (items .count) listed place next len end (putOffAll s (neighborsOf items ends v))
-    unfolding neighborsOf
-    edges-left h = rw (edges-all, e) h
-
-  module _ (e : items .edges ≡ false) where
-    nodes-all : items .count ≡ items .nodes
-    unfolding countOf
-    nodes-all = rw e at (known .all)
-
-    pub nodes-asked : Held (items .count) listed place next len end s → v < items .count → Held (items .nodes) listed place next len end s × (v < items .nodes)
-    nodes-asked h l = rw (← nodes-all) (h, l)
-
-    pub nodes-left : Held (items .nodes) listed place next len end (putOffAll s (neighbors ends (edgeCount ends) v)) → Held (items .count) listed place next len end (putOffAll s (neighborsOf items ends v))
-    unfolding neighborsOf
-    nodes-left h = rw (nodes-all, e) h
+  pub nodes-left : items .edges ≡ false
+      → ((n : ℕ) → Passed n ends → Table ends n starts entries → v < n → Held n listed place next len end s → Held n listed′ place′ next′ len′ end′ (putOffAll s (neighbors ends (edgeCount ends) v)))
+      → Held (items .count) listed′ place′ next′ len′ end′ (putOffAll s (neighborsOf items ends v))
+  unfolding neighborsOf countOf
+  nodes-left e walk =
+      let all : items .count ≡ items .nodes = rw e at (known .all) in
+      rw (all, e) (walk (items .nodes) (known .passed) (known .table) (rw all at less) (rw all at held))

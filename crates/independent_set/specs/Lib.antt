@@ -1,5 +1,4 @@
 -- Greedy colouring by independent sets: the items, the rounds, and that the colours are greedy.
 pub mod Items
 pub mod Rounds
-pub mod Edges
 pub mod IndependentSetLaws

@@ -47,38 +47,6 @@ copied-front len from to a b =
     let l = length-take-le len from a in
     rw (take-all (length to) (take len from) (omega arith), l) (ap (λ (i : ℕ). take i (take len from ++ drop len to)) (sym l) ∙ take-append-seam (take len from) (drop len to))
 
--- ---- the neighbours of a node
-
-put-off-one-more : (f : ℕ → ℕ) (s : Lists) (l : List ℕ) (i : ℕ) → i < length l → putOffAll s (map f (take (suc i) l)) ≡ putOff (putOffAll s (map f (take i l))) (f (getD l i 0))
-unfolding putOffAll
-put-off-one-more f s [] i h = absurd (not-suc-le-zero h)
-put-off-one-more f s (x ∷ l) zero h = refl
-put-off-one-more f s (x ∷ l) (suc i) h = put-off-one-more f (putOff s (f x)) l i (omega arith)
-
-pub neighbors-none : (n : ℕ) (ends edges listed place next : List ℕ) (len end v : ℕ) (s : Lists) → Held n listed place next len end s → Held n listed place next len end (putOffAll s (map (λ (j : ℕ). farEnd ends j v) (take 0 edges)))
-unfolding putOffAll
-neighbors-none n ends edges listed place next len end v s h = h
-
-module _ (n : ℕ) (ends starts entries edges : List ℕ) (v : ℕ) (passed : Passed n ends) (table : Table ends n starts entries) (less : v < n) (e : edges ≡ stretch starts entries v) where
-  edges-same : edges ≡ edgesAt ends (edgeCount ends) v
-  edges-same = e ∙ table .row v less
-
-  pub neighbor-below : (i far : ℕ) → i < length edges → far ≡ farEnd ends (getD edges i 0) v → far < n
-  neighbor-below i far h p =
-      passed-neighbor n ends passed v far
-      (rw (p, neighbors-far-ends ends (edgeCount ends) v, ← edges-same) (mem-map (λ (j : ℕ). farEnd ends j v) (getD edges i 0) edges (mem-getD edges i 0 h)))
-
-  pub neighbors-done : (i : ℕ) (listed place next : List ℕ) (len end : ℕ) (s : Lists) → length edges ≤ i → Held n listed place next len end (putOffAll s (map (λ (j : ℕ). farEnd ends j v) (take i edges)))
-      → Held n listed place next len end (putOffAll s (neighbors ends (edgeCount ends) v))
-  neighbors-done i listed place next len end s b h = rw (neighbors-far-ends ends (edgeCount ends) v, ← edges-same) (rw (take-all i edges b) at h)
-
-pub neighbors-more : (n : ℕ) (ends edges : List ℕ) (v i far : ℕ) (s : Lists) (listed place next : List ℕ) (len end : ℕ) (listed′ place′ next′ : List ℕ) (len′ end′ : ℕ)
-    → Held n listed place next len end (putOffAll s (map (λ (j : ℕ). farEnd ends j v) (take i edges))) → i < length edges → far ≡ farEnd ends (getD edges i 0) v
-    → Held n listed′ place′ next′ len′ end′ (putOff (listsAt listed next len end) far)
-    → Held n listed′ place′ next′ len′ end′ (putOffAll s (map (λ (j : ℕ). farEnd ends j v) (take (i + 1) edges)))
-neighbors-more n ends edges v i far s listed place next len end listed′ place′ next′ len′ end′ h b p k =
-    rw (add-one i, put-off-one-more (λ (j : ℕ). farEnd ends j v) s edges i b, ← p) (rw (lists-held n listed place next len end (putOffAll s (map (λ (j : ℕ). farEnd ends j v) (take i edges))) h) at k)
-
 -- ---- the presets of a colour
 
 pub presets-none : (n : ℕ) (nb : ℕ → List ℕ) (presets listed place next : List ℕ) (len end r : ℕ) (s : Lists) → Held n listed place next len end s → Held n listed place next len end (putOffPresets nb presets r 0 s)

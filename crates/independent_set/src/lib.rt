@@ -16,7 +16,6 @@ use greedy::check_nodes;
 use incidence::incidence_front;
 use listing::list_uncolored;
 
-mod edges;
 mod items;
 mod rounds;
 

@@ -2,55 +2,20 @@
 ghost use mathlib.Core.Path.{_≡_};
 ghost use Prim.Native.Nat.{_<_};
 ghost use lib.ListN.{length, take};
-ghost use Rattle.graph.specs.CheckLaws.{Passed};
-ghost use Rattle.graph.specs.Edges.{edgeCount, neighbors};
-ghost use Rattle.graph.specs.StretchLaws.{Table};
 ghost use Rattle.greedy.specs.IndependentSet.{putOffAll, putOffPresets, colorListed, rounds};
 ghost use Rattle.independent_set.specs.Items.{neighborsOf, Tabled};
 ghost use Rattle.listing.specs.Listing.{Listing, Held, listsAt};
 ghost use Rattle.independent_set.specs.Rounds.{Rounded};
-use crate::edges::put_off_sharing;
 use crate::items::Items;
 use graph::Color;
 use graph::EdgeIndex;
 use graph::NodeIndex;
 use graph::copy_colors;
-use graph::edges_at;
-use graph::far_end;
 use listing::Counts;
 use listing::Item;
-use listing::put_off;
+use listing::put_off_far_ends;
+use listing::put_off_sharing;
 use listing::take_out;
-
-// The listed neighbours of a node are put off, in incidence order.
-fn put_off_far_ends(
-    n: usize,
-    ends: &[u16],
-    starts: &[u16],
-    entries: &[u16],
-    listed: &mut [u16],
-    place: &mut [u16],
-    next: &mut [u16],
-    counts: Counts,
-    node: NodeIndex,
-) -> Counts
-    requires { ⌜ Passed n (now ends) ⌝ }
-    requires { ⌜ Table (now ends) n (now starts) (now entries) ⌝ }
-    requires { ⌜ Held n (now listed) (now place) (now next) (counts .listed) (counts .next) (listsAt (now listed) (now next) (counts .listed) (counts .next)) ⌝ }
-    requires { ⌜ node .0 < n ⌝ }
-    ensures { λ r. ⌜ Held n (now (listed .exit)) (now (place .exit)) (now (next .exit)) (r .listed) (r .next)
-        (putOffAll (listsAt (now (listed .entry)) (now (next .entry)) (counts .listed) (counts .next)) (neighbors (now (ends .entry)) (edgeCount (now (ends .entry))) (node .0))) ⌝ }
-{
-    let edges = edges_at(starts, entries, node);
-    let mut reached = counts;
-    let mut i = 0;
-    while i < edges.len() {
-        let far = far_end(ends, EdgeIndex(edges[i]), node);
-        reached = put_off(listed, place, next, reached, Item(far.0));
-        i += 1;
-    }
-    reached
-}
 
 // The listed neighbours of an item are put off, in incidence order.
 fn put_off_neighbors(
@@ -70,13 +35,12 @@ fn put_off_neighbors(
     ensures { λ r. ⌜ Held (items .count) (now (listed .exit)) (now (place .exit)) (now (next .exit)) (r .listed) (r .next)
         (putOffAll (listsAt (now (listed .entry)) (now (next .entry)) (counts .listed) (counts .next)) (neighborsOf items (now (ends .entry)) (item .0))) ⌝ }
 {
-    let n = items.nodes;
     if items.edges {
         let edge = EdgeIndex(item.0);
-        return put_off_sharing(n, ends, starts, entries, listed, place, next, counts, edge);
+        return put_off_sharing(ends, starts, entries, listed, place, next, counts, edge);
     }
     let node = NodeIndex(item.0);
-    put_off_far_ends(n, ends, starts, entries, listed, place, next, counts, node)
+    put_off_far_ends(ends, starts, entries, listed, place, next, counts, node)
 }
 
 // The listed neighbours of the presets of a colour are put off.

@@ -85,7 +85,7 @@ module _ (later : Bool) (k at : ℕ) (l : List ℕ) (e : at ≡ placeOf k l) whe
 
 -- ---- putting off in a row
 
-put-off-append : (s : Lists) (xs ys : List ℕ) → putOffAll s (xs ++ ys) ≡ putOffAll (putOffAll s xs) ys
+pub put-off-append : (s : Lists) (xs ys : List ℕ) → putOffAll s (xs ++ ys) ≡ putOffAll (putOffAll s xs) ys
 unfolding putOffAll
 put-off-append s [] ys = refl
 put-off-append s (x ∷ xs) ys = put-off-append (putOff s x) xs ys
@@ -108,14 +108,6 @@ module _ (m : ℕ) (s : Lists) (listed place next : List ℕ) (len end : ℕ) wh
   part-more edges i a b h listed′ place′ next′ len′ end′ k =
       let e : suc (i - 1) ≡ i = omega arith in
       rw (drop-cons edges (i - 1) 0 (omega arith), put-off-last s (drop (suc (i - 1)) edges) (getD edges (i - 1) 0), e) (rw (lists-held m listed place next len end (putOffAll s (reverse (drop i edges))) h) at k)
-
-  -- After some, the others.
-  pub put-off-then : (xs ys : List ℕ) → Held m listed place next len end (putOffAll s xs) → (listed′ place′ next′ : List ℕ) (len′ end′ : ℕ) → Held m listed′ place′ next′ len′ end′ (putOffAll (listsAt listed next len end) ys)
-      → Held m listed′ place′ next′ len′ end′ (putOffAll s (xs ++ ys))
-  put-off-then xs ys h listed′ place′ next′ len′ end′ k = rw (put-off-append s xs ys) (rw (lists-held m listed place next len end (putOffAll s xs) h) at k)
-
-  pub put-off-same : (xs ys : List ℕ) → Held m listed place next len end (putOffAll s xs) → xs ≡ ys → Held m listed place next len end (putOffAll s ys)
-  put-off-same xs ys h e = rw (← e) h
 
 -- ---- the ends of an edge
 

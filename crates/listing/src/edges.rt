@@ -1,17 +1,25 @@
-// The edges at a node, and an edge among them.
+// The neighbours of an edge, told from the edges at its ends: those after it at the higher end, last first, then at the lower, then
+// those before it, the same way. A loop has one end only.
 ghost use mathlib.Core.Path.{_≡_};
 ghost use mathlib.Core.List.{reverse};
 ghost use Prim.Native.Nat.{ℕ, _<_};
 ghost use Rattle.lists.specs.Member.{Mem};
+ghost use Rattle.graph.specs.CheckLaws.{Passed};
+ghost use Rattle.graph.specs.Edges.{edgeCount};
+ghost use Rattle.graph.specs.Stretch.{stretch};
+ghost use Rattle.graph.specs.StretchLaws.{Table};
 ghost use Rattle.line_graph.specs.LineNeighbors.{higherEnd, lowerEnd};
+ghost use Rattle.greedy.specs.Call.{edgeNeighbors};
 ghost use Rattle.greedy.specs.IndependentSet.{placeOf, putOffAll};
 ghost use Rattle.listing.specs.Listing.{Held, listsAt};
 ghost use Rattle.listing.specs.Edges.{partIn};
+ghost use Rattle.listing.specs.Neighbors.{partAt};
 use crate::Item;
 use crate::list::Counts;
 use crate::list::put_off;
 use graph::EdgeIndex;
 use graph::NodeIndex;
+use graph::edges_at;
 use graph::end_at;
 
 // Where an edge stands among these, their end if it does not.
@@ -29,7 +37,7 @@ fn place_of(edges: &[u16], edge: EdgeIndex) -> usize
 }
 
 // Of these edges those after an edge, or those before it.
-pub fn part_of<'a>(edges: &'a [u16], edge: EdgeIndex, later: bool) -> &'a [u16]
+fn part_of<'a>(edges: &'a [u16], edge: EdgeIndex, later: bool) -> &'a [u16]
     ensures { λ r. ⌜ now r ≡ partIn later (edge .0) (now (edges .entry)) ⌝ }
 {
     let at = place_of(edges, edge);
@@ -43,7 +51,7 @@ pub fn part_of<'a>(edges: &'a [u16], edge: EdgeIndex, later: bool) -> &'a [u16]
 }
 
 // The listed ones of these edges are put off, last first.
-pub fn put_off_part(
+fn put_off_part(
     edges: &[u16],
     listed: &mut [u16],
     place: &mut [u16],
@@ -64,12 +72,12 @@ pub fn put_off_part(
 }
 
 // An edge's ends in order, equal for a loop.
-pub struct EdgeEnds {
+struct EdgeEnds {
     pub higher: NodeIndex,
     pub lower: NodeIndex,
 }
 
-pub fn ends_of(ends: &[u16], edge: EdgeIndex) -> EdgeEnds
+fn ends_of(ends: &[u16], edge: EdgeIndex) -> EdgeEnds
     ensures { λ r. ⌜ (r .higher .0 ≡ higherEnd (now (ends .entry)) (edge .0)) × (r .lower .0 ≡ lowerEnd (now (ends .entry)) (edge .0)) ⌝ }
 {
     let k = edge.0 as usize;
@@ -85,4 +93,51 @@ pub fn ends_of(ends: &[u16], edge: EdgeIndex) -> EdgeEnds
         higher: first,
         lower: second,
     }
+}
+
+// One of the four parts of the edges that share an end with an edge, in the order in which they are put off.
+fn part_at<'a>(
+    ends: &[u16],
+    starts: &[u16],
+    entries: &'a [u16],
+    edge: EdgeIndex,
+    turn: usize,
+) -> &'a [u16]
+    ensures { λ r. ⌜ now r ≡ partAt (stretch (now (starts .entry)) (now (entries .entry))) (now (ends .entry)) (edge .0) turn ⌝ }
+{
+    let both = ends_of(ends, edge);
+    let later = turn < 2;
+    if turn % 2 == 0 {
+        return part_of(edges_at(starts, entries, both.higher), edge, later);
+    }
+    if both.higher.0 == both.lower.0 {
+        return &entries[0..0];
+    }
+    part_of(edges_at(starts, entries, both.lower), edge, later)
+}
+
+// The listed edges that share an end with an edge are put off, in the order of the line list.
+pub fn put_off_sharing(
+    ends: &[u16],
+    starts: &[u16],
+    entries: &[u16],
+    listed: &mut [u16],
+    place: &mut [u16],
+    next: &mut [u16],
+    counts: Counts,
+    edge: EdgeIndex,
+) -> Counts
+    ensures { λ r. ⌜ ((n : ℕ) → Passed n (now (ends .entry)) → Table (now (ends .entry)) n (now (starts .entry)) (now (entries .entry)) → edge .0 < edgeCount (now (ends .entry))
+        → Held (edgeCount (now (ends .entry))) (now (listed .entry)) (now (place .entry)) (now (next .entry)) (counts .listed) (counts .next) (listsAt (now (listed .entry)) (now (next .entry)) (counts .listed) (counts .next))
+        → Held (edgeCount (now (ends .entry))) (now (listed .exit)) (now (place .exit)) (now (next .exit)) (r .listed) (r .next)
+        (putOffAll (listsAt (now (listed .entry)) (now (next .entry)) (counts .listed) (counts .next)) (edgeNeighbors n (now (ends .entry)) (edge .0)))) ⌝ }
+{
+    let mut reached = counts;
+    let mut turn = 0;
+    while turn < 4 {
+        let part = part_at(ends, starts, entries, edge, turn);
+        reached = put_off_part(part, listed, place, next, reached);
+        turn += 1;
+    }
+    reached
 }

@@ -93,7 +93,7 @@ pub fn take_out(listed: &mut [u16], place: &mut [u16], len: usize, item: Item)
 }
 
 // A listed item is taken out and goes to the end of the next list.
-pub fn put_off(
+pub(crate) fn put_off(
     listed: &mut [u16],
     place: &mut [u16],
     next: &mut [u16],
