@@ -1,13 +1,13 @@
 -- The colours that the exchange gives to the path and the rotation to the fan.
 use Prim.Native.Nat.{ℕ, _+_, _≤_, _<_}
-use mathlib.Core.Path.{_≡_, refl}
-use mathlib.Core.List.{List, [], _∷_, _++_, map}
+use mathlib.Core.Path.{_≡_}
+use mathlib.Core.List.{List, []}
 use native.Mathlib.Omega.{arith}
 use native.Mathlib.Numerals.{add-one}
 use lib.ListN.{length, getD, set, take, drop, length-map, length-append, length-drop, drop-of-length-le}
 use lib.Seq.{drop-cons}
 use Rattle.graph.specs.Colored.{colorOf}
-use Rattle.vizing.specs.MisraGries.{store, swap, exchange, rotate}
+use Rattle.vizing.specs.MisraGries.{swap}
 use Rattle.vizing.specs.AlternatingPath.{swap-left, swap-right, swap-other}
 use Rattle.edge_table.specs.StepRepaint.{exchangedColors, rotatedColors}
 use Rattle.fan.specs.Front.{Front, front-start, front-next, front-all}

@@ -21,7 +21,7 @@ fn swapped(c: Color, d: Color, color: Color) -> Color
     color
 }
 
-// The edges' colours with c and d exchanged, to the front of out.
+// The edges' colours with c and d exchanged, to the front of out if it has room for all.
 pub fn swap_colors(work: &[u16], edges: &[u16], c: Color, d: Color, out: &mut [u16])
     ensures { λ _. ⌜ (length (now (edges .entry)) ≤ length (now (out .entry))
         → take (length (now (edges .entry))) (now (out .exit)) ≡ exchangedColors (now (work .entry)) (c .0) (d .0) (now (edges .entry))) ⌝ }
@@ -37,7 +37,7 @@ pub fn swap_colors(work: &[u16], edges: &[u16], c: Color, d: Color, out: &mut [u
     }
 }
 
-// For each place of the fan the colour of the next, and for the last place this colour, to the front of out.
+// For each place of the fan the colour of the next, and for the last place this colour, to the front of out if it has room for all.
 pub fn shift_colors(work: &[u16], fan: &[u16], color: Color, out: &mut [u16])
     ensures { λ _. ⌜ (1 ≤ length (now (fan .entry)) → length (now (fan .entry)) ≤ length (now (out .entry))
         → take (length (now (fan .entry))) (now (out .exit)) ≡ rotatedColors (now (work .entry)) (drop 1 (now (fan .entry))) (color .0)) ⌝ }

@@ -1,13 +1,12 @@
 // The step of one edge: its fan, the path exchanged, the fan rotated.
 ghost use mathlib.Core.Path.{_≡_};
-ghost use mathlib.Core.List.{_∷_};
-ghost use Prim.Native.Nat.{_+_, _≤_};
+ghost use Prim.Native.Nat.{_≤_};
 ghost use lib.ListN.{length, drop};
 ghost use Rattle.graph.specs.Edges.{edgeCount};
 ghost use Rattle.vizing.specs.MisraGries.{path, exchange, store};
 ghost use Rattle.edge_table.specs.TableOf.{TableOf};
 ghost use Rattle.edge_table.specs.Repaint.{Repaintable};
-ghost use Rattle.edge_table.specs.StepRepaint.{exchangedColors, rotatedColors};
+ghost use Rattle.edge_table.specs.StepRepaint.{rotatedColors};
 ghost use Rattle.misra_gries.specs.Step.{Ready, Stepped, Exchanging, Turning, Turned};
 use crate::grow::grow;
 use edge_table::is_free;

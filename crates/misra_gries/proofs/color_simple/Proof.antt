@@ -23,10 +23,10 @@ run-requires : tie.Need-run-requires
 run-requires c κs = running-begin _ _ _ _ 294912 (c .before .before .before .before .before .before .before .pre .0) (c .before .before .before .before .before .before .before .pre .1 .0) refl
 
 array-share-prefix-work : tie.Need-array-share-prefix-work
-array-share-prefix-work c = running-room _ _ _ _ _ _ _ _ _ (c .before .before .before .run .ensures)
+array-share-prefix-work c = omega (arith, running-room _ _ _ _ _ _ _ _ _ (c .before .before .before .run .ensures))
 
 slice-aggregate-copy-colors : tie.Need-slice-aggregate-copy-colors
-slice-aggregate-copy-colors c = sym (length-take-le _ _ (running-room _ _ _ _ _ _ _ _ _ (c .before .before .before .before .run .ensures)))
+slice-aggregate-copy-colors c = sym (length-take-le _ _ (omega (arith, running-room _ _ _ _ _ _ _ _ _ (c .before .before .before .before .run .ensures))))
 
 copy-colors-requires : tie.Need-copy-colors-requires
 copy-colors-requires c κs = tt

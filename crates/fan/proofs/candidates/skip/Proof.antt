@@ -1,5 +1,6 @@
 -- `skip` meets its contract. The invariant: if no candidate before the first place may join, none before place i may.
 use Prim.Native.Nat.{_-_}
+use mathlib.Core.Path.{sym, _∙_}
 use native.Mathlib.Omega.{arith}
 use lib.ListN.{length}
 use borrow.Author.Needs.{needs}
@@ -22,7 +23,7 @@ skip-spec =
     μ-loop
     (λ c p. p)
     (λ c. search needs) (λ c. search needs) (λ c κs. tt)
-    (λ c. (c .before .before .before .before .loop .inv, λ h. cc))
+    (λ c. (c .before .before .before .before .loop .inv, λ h. sym (c .before .may-join .ensures) ∙ c .if1 .taken))
     (λ c. search needs) (λ c. search needs)
     (λ c p. passed-more _ _ _ _ _ _ (c .before .before .before .before .loop .inv p) (c .before .before .before .loop-test .taken) (c .before .may-join .ensures) (c .if1 .left))
     (λ c. (c .before .loop .inv, λ h. let z : ⊥ = omega arith in absurd z)))

@@ -1,4 +1,5 @@
--- `shift_colors` meets its contract: it promises nothing of a fan without a place, or where out is too short. The invariant: the first i colours stand in out, and those of the places from i on are to come.
+-- `shift_colors` meets its contract: it promises nothing of a fan without a place, or where out is too short.
+-- The invariant: the first i colours stand in out, and those of the places from i on are to come.
 use Prim.Native.Nat.{_<_, _+_, _-_}
 use mathlib.Core.Path.{_≡_, refl}
 use native.Mathlib.Omega.{arith}

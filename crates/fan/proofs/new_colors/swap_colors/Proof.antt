@@ -1,4 +1,5 @@
--- `swap_colors` meets its contract: it promises nothing where out is too short. The invariant: the first i colours stand in out, and those of the edges from i on are to come.
+-- `swap_colors` meets its contract: it promises nothing where out is too short.
+-- The invariant: the first i colours stand in out, and those of the edges from i on are to come.
 use Prim.Native.Nat.{_≤_, _-_}
 use mathlib.Core.Path.{_≡_}
 use native.Mathlib.Omega.{arith}
