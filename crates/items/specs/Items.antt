@@ -127,10 +127,6 @@ unfolding secondNode
 second-inside Nodes ends items sized v h = omega (arith, sized .size)
 second-inside Edges ends items sized v h = passed-inside (sized .nodes) ends (sized .passed) v (omega (arith, sized .size)) .1
 
-pub nodes-room : (kind : Kind) (ends : List ℕ) (items : ℕ) → Sized kind ends items → (l : ℕ) → 512 ≤ l → (v : ℕ) → v < items → (firstNode kind ends v < l) × (secondNode kind ends v < l)
-nodes-room kind ends items sized l h v b =
-    (omega (arith, first-inside kind ends items sized v b, sized .passed .nodes), omega (arith, second-inside kind ends items sized v b, sized .passed .nodes))
-
 -- An edge leads from its ends to items.
 pub across-inside : (kind : Kind) (ends : List ℕ) (items : ℕ) → Sized kind ends items → (k w : ℕ) → k < edgeCount ends → At ends k w → acrossOf kind ends k w < items
 unfolding acrossOf

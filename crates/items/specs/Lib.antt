@@ -1,3 +1,6 @@
--- The items that are coloured, nodes or edges, and the colours that stand at their nodes.
+-- The items that are coloured, nodes or edges, and the marks of those to which a colour is not new.
 pub mod Items
 pub mod Standing
+pub mod Around
+pub mod Stored
+pub mod Marks

@@ -5,7 +5,6 @@ ghost use lib.ListN.{length};
 ghost use Rattle.graph.specs.Stretch.{stretch};
 ghost use Rattle.graph.specs.Colored.{noColor, colorOf, smallestFreeAt};
 ghost use Rattle.items.specs.Items.{firstNode, secondNode, acrossOf, ownOf, neighborsOf, Tabled, Within};
-ghost use Rattle.items.specs.Standing.{standsAt};
 use graph::Color;
 use graph::EdgeIndex;
 use graph::NodeIndex;
@@ -14,6 +13,10 @@ use graph::end_at;
 use graph::far_end;
 use greedy::smallest_color;
 use greedy::smallest_edge_color;
+
+mod marks;
+
+pub use marks::mark_known;
 
 // Which items are coloured.
 pub enum Kind {
@@ -103,30 +106,4 @@ pub fn free_color(
         Kind::Nodes => smallest_color(ends, starts, entries, colors, NodeIndex(item.0)),
         Kind::Edges => smallest_edge_color(ends, starts, entries, colors, EdgeIndex(item.0)),
     }
-}
-
-// Whether an edge at the node leads to an item that has the colour.
-pub fn stands_at(
-    kind: Kind,
-    ends: &[u16],
-    starts: &[u16],
-    entries: &[u16],
-    colors: &[u16],
-    node: NodeIndex,
-    color: Color,
-) -> bool
-    ensures { λ r. ⌜ r ≡ standsAt kind (now (ends .entry)) (now (colors .entry)) (color .0) (node .0) (stretch (now (starts .entry)) (now (entries .entry)) (node .0)) ⌝ }
-{
-    let edges = edges_at(starts, entries, node);
-    let mut i = 0;
-    while i < edges.len() {
-        let v = across(kind, ends, EdgeIndex(edges[i]), node).0 as usize;
-        i += 1;
-        if v < colors.len() {
-            if colors[v] == color.0 {
-                return true;
-            }
-        }
-    }
-    false
 }

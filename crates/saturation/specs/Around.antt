@@ -1,13 +1,10 @@
--- The items to which the edges at an item's nodes lead: its neighbours, and an edge itself.
+-- The items around an item note its colour, those at its first node and then those at its second.
 use Prim.Native.Nat.{ℕ, _<_}
 use mathlib.Core.Path.{_≡_, refl, sym, ap, subst, _∙_}
 use mathlib.Core.Logic.{inl, inr, _≢_}
-use mathlib.Core.List.{List, [], _∷_, _++_}
-use mathlib.Core.Bool.{cond}
+use mathlib.Core.List.{List, [], _∷_}
 use native.Mathlib.Omega.{arith}
 use lib.ListN.{length, getD}
-use lib.Dec.{eqb}
-use borrow.Author.Tests.{eq-eqb, ne-eqb}
 use Rattle.lists.specs.Tests.{dec-eq}
 use Rattle.lists.specs.Member.{Mem, mem-getD}
 use Rattle.lists.specs.Different.{count, count-append}
@@ -19,27 +16,12 @@ use Rattle.line_graph.specs.LineNeighborLaws.{line-neighbor-times, line-neighbo
 use Rattle.items.specs.declared.Kind.{Kind}
 use Rattle.items.specs.declared.Kind.the-variants.{Nodes, Edges}
 use Rattle.items.specs.Items.{firstNode, secondNode, acrossOf, neighborsOf, Tabled, first-inside, second-inside, across-inside}
-use Rattle.saturation.specs.Notes.{Noted, Room, acrossAll, noted-more, room-first, room-left}
+use Rattle.items.specs.Around.{acrossAll, along, around, around-one, around-two}
+use Rattle.saturation.specs.Notes.{Noted, Room, noted-more, room-first, room-left}
+
+-- ---- as the code goes
 
 module _ (kind : Kind) (ends starts entries : List ℕ) where
-  -- The items along the edges at node w.
-  unfoldable pub along : ℕ → List ℕ
-  along w = acrossAll kind ends w (stretch starts entries w)
-
-  -- The items along the edges at the nodes of item v.
-  unfoldable pub around : ℕ → List ℕ
-  around v = cond (eqb (firstNode kind ends v) (secondNode kind ends v)) (along (firstNode kind ends v)) (along (firstNode kind ends v) ++ along (secondNode kind ends v))
-
-  pub around-one : (v a b : ℕ) → a ≡ firstNode kind ends v → b ≡ secondNode kind ends v → a ≡ b → around v ≡ along a
-  unfolding around
-  around-one v a b p q e = rw (← p, ← q, eq-eqb a b e)
-
-  pub around-two : (v a b : ℕ) → a ≡ firstNode kind ends v → b ≡ secondNode kind ends v → (a ≡ b → ⊥) → around v ≡ along a ++ along b
-  unfolding around
-  around-two v a b p q n = rw (← p, ← q, ne-eqb a b n)
-
-  -- ---- as the code goes
-
   module _ (items : ℕ) (tabled : Tabled kind ends starts entries items) (v a : ℕ) (inside : v < items) (edges : List ℕ) (at : edges ≡ stretch starts entries a) where
     stretch-inside : a < tabled .sized .nodes → (i : ℕ) → i < length edges → acrossOf kind ends (getD edges i 0) a < items
     stretch-inside h i b =
@@ -53,25 +35,25 @@ module _ (kind : Kind) (ends starts entries : List ℕ) where
     second-across e = stretch-inside (rw e (second-inside kind ends items (tabled .sized) v inside))
 
   module _ (colors : List ℕ) (v a b : ℕ) (p : a ≡ firstNode kind ends v) (q : b ≡ secondNode kind ends v) (edges : List ℕ) (x : edges ≡ stretch starts entries a) where
-    pub around-first : (s w m : List ℕ) → Room colors (around v) s w m → Room colors (acrossAll kind ends a edges) s w m
+    pub around-first : (s w m : List ℕ) → Room colors (around kind ends starts entries v) s w m → Room colors (acrossAll kind ends a edges) s w m
     unfolding along
     around-first s w m room = rw x (elim (dec-eq a b) [
-      | inl e ↦ rw (around-one v a b p q e) at room
-      | inr n ↦ room-first colors (along a) (along b) s w m (rw (around-two v a b p q n) at room)
+      | inl e ↦ rw (around-one kind ends starts entries v a b p q e) at room
+      | inr n ↦ room-first colors (along kind ends starts entries a) (along kind ends starts entries b) s w m (rw (around-two kind ends starts entries v a b p q n) at room)
     ])
 
-    pub one-noted : (s₀ w₀ m₀ s w m : List ℕ) → a ≡ b → Noted colors (acrossAll kind ends a edges) s₀ w₀ m₀ s w m → Noted colors (around v) s₀ w₀ m₀ s w m
+    pub one-noted : (s₀ w₀ m₀ s w m : List ℕ) → a ≡ b → Noted colors (acrossAll kind ends a edges) s₀ w₀ m₀ s w m → Noted colors (around kind ends starts entries v) s₀ w₀ m₀ s w m
     unfolding along
-    one-noted s₀ w₀ m₀ s w m e noted = rw (around-one v a b p q e, ← x) noted
+    one-noted s₀ w₀ m₀ s w m e noted = rw (around-one kind ends starts entries v a b p q e, ← x) noted
 
     module _ (n : a ≡ b → ⊥) (others : List ℕ) (y : others ≡ stretch starts entries b) (s₀ w₀ m₀ s w m : List ℕ) (noted : Noted colors (acrossAll kind ends a edges) s₀ w₀ m₀ s w m) where
-      pub around-second : Room colors (around v) s₀ w₀ m₀ → Room colors (acrossAll kind ends b others) s w m
+      pub around-second : Room colors (around kind ends starts entries v) s₀ w₀ m₀ → Room colors (acrossAll kind ends b others) s w m
       unfolding along
-      around-second room = rw y (room-left colors (along a) (along b) s₀ w₀ m₀ s w m (rw (around-two v a b p q n) at room) (rw x at noted))
+      around-second room = rw y (room-left colors (along kind ends starts entries a) (along kind ends starts entries b) s₀ w₀ m₀ s w m (rw (around-two kind ends starts entries v a b p q n) at room) (rw x at noted))
 
-      pub both-noted : (s′ w′ m′ : List ℕ) → Noted colors (acrossAll kind ends b others) s w m s′ w′ m′ → Noted colors (around v) s₀ w₀ m₀ s′ w′ m′
+      pub both-noted : (s′ w′ m′ : List ℕ) → Noted colors (acrossAll kind ends b others) s w m s′ w′ m′ → Noted colors (around kind ends starts entries v) s₀ w₀ m₀ s′ w′ m′
       unfolding along
-      both-noted s′ w′ m′ more = rw (around-two v a b p q n) (noted-more colors (along a) (along b) s₀ w₀ m₀ s w m s′ w′ m′ (rw x at noted) (rw y at more))
+      both-noted s′ w′ m′ more = rw (around-two kind ends starts entries v a b p q n) (noted-more colors (along kind ends starts entries a) (along kind ends starts entries b) s₀ w₀ m₀ s w m s′ w′ m′ (rw x at noted) (rw y at more))
 
 -- ---- each other item stands there as often as among the neighbours
 

@@ -1,7 +1,6 @@
 -- Strategy Saturation with counts that are kept up to date.
 pub mod Counts
 pub mod Notes
-pub mod Stored
 pub mod Around
 pub mod Known
 pub mod Taken

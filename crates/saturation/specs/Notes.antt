@@ -4,9 +4,8 @@ use mathlib.Core.Path.{_≡_, refl, sym, ap, _∙_}
 use mathlib.Core.Logic.{inl, inr, _≢_}
 use mathlib.Core.List.{List, [], _∷_, _++_, map}
 use native.Mathlib.Omega.{arith}
-use native.Mathlib.Numerals.{add-one}
 use lib.ListN.{length, getD, take, drop, set, take-append-drop}
-use lib.Seq.{take-suc, drop-cons, take-length, getD-set-same, getD-set-other}
+use lib.Seq.{drop-cons, take-length, getD-set-same, getD-set-other}
 use Rattle.lists.specs.Member.{map-append}
 use Rattle.lists.specs.Tests.{dec-eq}
 use Rattle.lists.specs.Different.{count, count-append, count-here, count-there, count-none}
@@ -14,6 +13,7 @@ use Rattle.graph.specs.Colored.{noColor, colorOf}
 use Rattle.graph.specs.ColoredLaws.{color-read}
 use Rattle.items.specs.declared.Kind.{Kind}
 use Rattle.items.specs.Items.{acrossOf}
+use Rattle.items.specs.Around.{acrossAll, across-more}
 
 -- An item's counts and mark, before and after it has noted the colour `times` times: it waits for as many fewer, and the colour is new to it unless the mark stood.
 pub record NotedTimes (times saturation₀ waiting₀ mark₀ saturation waiting mark : ℕ) : Type 0 where
@@ -89,15 +89,6 @@ module _ (colors s w m : List ℕ) (u : ℕ) where
   }
 
 -- ---- one edge after the other
-
--- The items to which these edges of node w lead.
-unfoldable pub acrossAll : Kind → List ℕ → ℕ → List ℕ → List ℕ
-acrossAll kind ends w ks = map (λ (k : ℕ). acrossOf kind ends k w) ks
-
-pub across-more : (kind : Kind) (ends : List ℕ) (w : ℕ) (ks : List ℕ) (i : ℕ) → i < length ks
-    → acrossAll kind ends w (take (i + 1) ks) ≡ acrossAll kind ends w (take i ks) ++ acrossOf kind ends (getD ks i 0) w ∷ []
-unfolding acrossAll
-across-more kind ends w ks i h = rw (add-one i, take-suc ks i 0 h) (map-append (λ (k : ℕ). acrossOf kind ends k w) (take i ks) (getD ks i 0 ∷ []))
 
 -- Each item without a colour has room to note the colour as often as it stands among these.
 pub record Room (colors us saturations waiting marks : List ℕ) : Type 0 where

@@ -17,7 +17,8 @@ use Rattle.items.specs.Items.{neighborsOf, Tabled, neighborhood}
 use Rattle.saturation.specs.Counts.{Counted, Cleared, colorsAmong, count-mem, mem-count, different-few, uncolored-falls, different-stays, different-grows}
 use Rattle.saturation.specs.Notes.{Noted, Room}
 use Rattle.saturation.specs.Known.{Known}
-use Rattle.saturation.specs.Around.{around, around-times}
+use Rattle.items.specs.Around.{around}
+use Rattle.saturation.specs.Around.{around-times}
 
 pub saturation-among : (nb : ℕ → List ℕ) (colors : List ℕ) (v : ℕ) → saturation nb colors v ≡ different (colorsAmong colors (nb v))
 unfolding saturation colorsAmong

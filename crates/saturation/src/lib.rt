@@ -18,7 +18,6 @@ use items::Kind;
 use turns::run;
 
 mod counts;
-mod marks;
 mod turns;
 
 // A graph that passed the checks, with a preset and a colour for each item. The answer is how many days the colours take.

@@ -3,6 +3,7 @@ use mathlib.Core.Path.{refl}
 use native.Mathlib.Omega.{arith}
 use borrow.Author.Needs.{needs}
 use Rattle.saturation.specs.Taken.{none-taken, take-tabled, take-inside, take-room, take-sizes, take-ready}
+use Rattle.saturation.specs.Known.{known}
 use Rattle.items.specs.Items.{items-few}
 use Rattle.saturation.proofs.counts.take_color.Statement.{statement}
 use Rattle.saturation.proofs.counts.take_color.Tie as tie
@@ -24,7 +25,7 @@ returns-2 c =
     let a = c .before .before .before .before .before .before .before .before .before .before .before .before .before .before .before .before .before .before .before .before .before .before .before .pre .1 in
     let n = c .before .before .before .before .before .before .before .before .before .before .before .before .before .before .before .if1 .left in
     let k = c .before .before .before .before .before .note-neighbors .kept in
-    (refl, take-ready _ _ _ _ _ _ _ _ _ r (a .0) (a .1) n _ _ _ _ (c .before .before .before .before .before .before .before .before .before .before .before .before .mark-known .ensures) (c .before .before .before .before .before .note-neighbors .ensures) (k .1 .1 .1 .1 .1 .0) (k .1 .1 .1 .1 .1 .1 .0))
+    (refl, take-ready _ _ _ _ _ _ _ _ _ r (a .0) (a .1) n _ _ _ _ (known _ _ _ _ _ _ (r .tabled) n _ _ _ (omega arith) (c .before .before .before .before .before .before .before .before .before .before .before .before .mark-known .ensures)) (c .before .before .before .before .before .note-neighbors .ensures) (k .1 .1 .1 .1 .1 .0) (k .1 .1 .1 .1 .1 .1 .0))
 
 pub take-color-spec : {M : Type 1} → statement M
 take-color-spec =

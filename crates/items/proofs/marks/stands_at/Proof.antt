@@ -5,8 +5,8 @@ use native.Mathlib.Omega.{arith}
 use lib.ListN.{length, drop}
 use borrow.Author.Needs.{needs}
 use Rattle.items.specs.Standing.{standsAt, stands-begin, stands-outside, stands-other, stands-here, stands-nowhere}
-use Rattle.items.proofs.stands_at.Statement.{statement}
-use Rattle.items.proofs.stands_at.Tie as tie
+use Rattle.items.proofs.marks.stands_at.Statement.{statement}
+use Rattle.items.proofs.marks.stands_at.Tie as tie
 
 abbrev Inv-loop : tie.InvT-loop
 Inv-loop kind ends starts entries colors node color edges i₀ i = (i ≤ length edges) × (standsAt kind ends colors (color .0) (node .0) (drop i edges) ≡ standsAt kind ends colors (color .0) (node .0) edges)

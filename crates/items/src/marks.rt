@@ -1,24 +1,46 @@
 // The items to which a colour is not new: it stands at one of their nodes. Of the items only those around the one that takes the
-// colour are marked, and each node is asked once a turn.
+// colour are marked, and each node is asked once.
 ghost use mathlib.Core.Path.{_≡_};
-ghost use Prim.Native.Nat.{ℕ, _≤_, _<_};
-ghost use lib.ListN.{length, getD};
-ghost use Rattle.graph.specs.Colored.{noColor};
-ghost use Rattle.items.specs.Items.{acrossOf, neighborsOf, Tabled};
-ghost use Rattle.saturation.specs.Notes.{acrossAll};
-ghost use Rattle.saturation.specs.Around.{around};
-ghost use Rattle.saturation.specs.Stored.{stored};
-ghost use Rattle.saturation.specs.Known.{stands, markOf, Asked, Placed, Known};
+ghost use Rattle.graph.specs.Stretch.{stretch};
+ghost use Rattle.items.specs.Standing.{standsAt};
+ghost use Rattle.items.specs.Around.{acrossAll, around};
+ghost use Rattle.items.specs.Stored.{stored};
+ghost use Rattle.items.specs.Marks.{stands, markOf, Asked};
+use crate::Item;
+use crate::Kind;
+use crate::across;
+use crate::first_node;
+use crate::second_node;
 use graph::Color;
 use graph::EdgeIndex;
 use graph::NodeIndex;
 use graph::edges_at;
-use items::Item;
-use items::Kind;
-use items::across;
-use items::first_node;
-use items::second_node;
-use items::stands_at;
+
+// Whether an edge at the node leads to an item that has the colour.
+fn stands_at(
+    kind: Kind,
+    ends: &[u16],
+    starts: &[u16],
+    entries: &[u16],
+    colors: &[u16],
+    node: NodeIndex,
+    color: Color,
+) -> bool
+    ensures { λ r. ⌜ r ≡ standsAt kind (now (ends .entry)) (now (colors .entry)) (color .0) (node .0) (stretch (now (starts .entry)) (now (entries .entry)) (node .0)) ⌝ }
+{
+    let edges = edges_at(starts, entries, node);
+    let mut i = 0;
+    while i < edges.len() {
+        let v = across(kind, ends, EdgeIndex(edges[i]), node).0 as usize;
+        i += 1;
+        if v < colors.len() {
+            if colors[v] == color.0 {
+                return true;
+            }
+        }
+    }
+    false
+}
 
 // Whether the colour stands at the node, and a note of the answer.
 fn ask(
@@ -31,11 +53,14 @@ fn ask(
     at: &mut [u8],
     node: NodeIndex,
 ) -> bool
-    requires { ⌜ (node .0 < length (now at)) × Asked kind (now ends) (now starts) (now entries) (now colors) (color .0) (now at) ⌝ }
+    requires { ⌜ Asked kind (now ends) (now starts) (now entries) (now colors) (color .0) (now at) ⌝ }
     ensures { λ r. ⌜ (r ≡ stands kind (now (ends .entry)) (now (starts .entry)) (now (entries .entry)) (now (colors .entry)) (color .0) (node .0))
         × Asked kind (now (ends .entry)) (now (starts .entry)) (now (entries .entry)) (now (colors .entry)) (color .0) (now (at .exit)) ⌝ }
 {
     let w = node.0 as usize;
+    if at.len() <= w {
+        return stands_at(kind, ends, starts, entries, colors, node, color);
+    }
     if at[w] != 0 {
         return at[w] == 2;
     }
@@ -58,12 +83,15 @@ fn item_mark(
     at: &mut [u8],
     item: Item,
 ) -> u8
-    requires { ⌜ Placed kind (now ends) (length (now at)) (length (now colors)) (item .0) ⌝ }
     requires { ⌜ Asked kind (now ends) (now starts) (now entries) (now colors) (color .0) (now at) ⌝ }
     ensures { λ r. ⌜ (r ≡ markOf kind (now (ends .entry)) (now (starts .entry)) (now (entries .entry)) (now (colors .entry)) (color .0) (item .0))
         × Asked kind (now (ends .entry)) (now (starts .entry)) (now (entries .entry)) (now (colors .entry)) (color .0) (now (at .exit)) ⌝ }
 {
-    if colors[item.0 as usize] != Color::NONE {
+    let v = item.0 as usize;
+    if colors.len() <= v {
+        return 0;
+    }
+    if colors[v] != Color::NONE {
         return 0;
     }
     let first = first_node(kind, ends, item);
@@ -90,23 +118,24 @@ fn mark_along(
     marks: &mut [u8],
     node: NodeIndex,
 )
-    requires { ⌜ ((i : ℕ) → i < length (now edges) → Placed kind (now ends) (length (now at)) (length (now colors)) (acrossOf kind (now ends) (getD (now edges) i 0) (node .0))) ⌝ }
-    requires { ⌜ (length (now colors) ≤ length (now marks)) × Asked kind (now ends) (now starts) (now entries) (now colors) (color .0) (now at) ⌝ }
+    requires { ⌜ Asked kind (now ends) (now starts) (now entries) (now colors) (color .0) (now at) ⌝ }
     ensures { λ _. ⌜ now (marks .exit) ≡ stored (markOf kind (now (ends .entry)) (now (starts .entry)) (now (entries .entry)) (now (colors .entry)) (color .0)) (acrossAll kind (now (ends .entry)) (node .0) (now (edges .entry))) (now (marks .entry)) ⌝ }
     ensures { λ _. ⌜ Asked kind (now (ends .entry)) (now (starts .entry)) (now (entries .entry)) (now (colors .entry)) (color .0) (now (at .exit)) ⌝ }
 {
     let mut i = 0;
     while i < edges.len() {
         let item = across(kind, ends, EdgeIndex(edges[i]), node);
+        i += 1;
         let mark = item_mark(kind, ends, starts, entries, colors, color, at, item);
         let v = item.0 as usize;
-        marks[v] = mark;
-        i += 1;
+        if v < marks.len() {
+            marks[v] = mark;
+        }
     }
 }
 
-// Marks the items around the item on whose neighbours the colour stands.
-pub(crate) fn mark_known(
+// The items around the item get their marks, each where it has a place: 1 to those without a colour that have this one on a neighbour.
+pub fn mark_known(
     kind: Kind,
     ends: &[u16],
     starts: &[u16],
@@ -116,9 +145,7 @@ pub(crate) fn mark_known(
     marks: &mut [u8],
     item: Item,
 )
-    requires { ⌜ Tabled kind (now ends) (now starts) (now entries) (length (now colors)) ⌝ }
-    requires { ⌜ (item .0 < length (now colors)) × (4096 ≤ length (now marks)) × (color .0 ≡ noColor → ⊥) ⌝ }
-    ensures { λ _. ⌜ Known (around kind (now (ends .entry)) (now (starts .entry)) (now (entries .entry)) (item .0)) (neighborsOf kind (now (ends .entry))) (now (colors .entry)) (color .0) (now (marks .exit)) ⌝ }
+    ensures { λ _. ⌜ now (marks .exit) ≡ stored (markOf kind (now (ends .entry)) (now (starts .entry)) (now (entries .entry)) (now (colors .entry)) (color .0)) (around kind (now (ends .entry)) (now (starts .entry)) (now (entries .entry)) (item .0)) (now (marks .entry)) ⌝ }
 {
     let mut at = [0u8; 512];
     let first = first_node(kind, ends, item);

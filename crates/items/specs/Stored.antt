@@ -1,15 +1,15 @@
 -- A list with a value stored at each of some places, one after the other.
 use Prim.Native.Nat.{ℕ, _+_, _≤_, _<_}
-use mathlib.Core.Path.{_≡_, refl, _∙_}
+use mathlib.Core.Path.{_≡_, refl, sym, _∙_}
 use mathlib.Core.Logic.{inl, inr}
 use mathlib.Core.List.{List, [], _∷_, _++_}
 use native.Mathlib.Omega.{arith}
 use lib.ListN.{length, getD, take, set, length-set}
-use lib.Seq.{take-length, getD-set-same, getD-set-other}
+use lib.Seq.{set-out, take-length, getD-set-same, getD-set-other}
 use Rattle.lists.specs.Member.{Mem, dec-mem}
 use Rattle.items.specs.declared.Kind.{Kind}
 use Rattle.items.specs.Items.{acrossOf}
-use Rattle.saturation.specs.Notes.{acrossAll, across-more}
+use Rattle.items.specs.Around.{acrossAll, across-more}
 
 module _ (f : ℕ → ℕ) where
   -- At each place u of us the value f u.
@@ -53,6 +53,10 @@ module _ (f : ℕ → ℕ) where
     module _ (marks : List ℕ) (i : ℕ) (p : marks ≡ stored (acrossAll kind ends w (take i ks)) marks₀) where
       pub along-more : i < length ks → (u x : ℕ) → u ≡ acrossOf kind ends (getD ks i 0) w → x ≡ f u → set marks u x ≡ stored (acrossAll kind ends w (take (i + 1) ks)) marks₀
       along-more h u x e q = rw (across-more kind ends w ks i h, stored-last (acrossAll kind ends w (take i ks)) (acrossOf kind ends (getD ks i 0) w) marks₀, p, q, e)
+
+      -- An item that has no place changes nothing.
+      pub along-outside : i < length ks → (u : ℕ) → u ≡ acrossOf kind ends (getD ks i 0) w → length marks ≤ u → marks ≡ stored (acrossAll kind ends w (take (i + 1) ks)) marks₀
+      along-outside h u e o = sym (set-out marks u (f u) o) ∙ along-more h u (f u) e refl
 
       pub along-all : i ≤ length ks → length ks ≤ i → marks ≡ stored (acrossAll kind ends w ks) marks₀
       along-all h k = let e : i ≡ length ks = omega arith in p ∙ rw (e, take-length ks)
