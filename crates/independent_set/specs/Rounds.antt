@@ -1,8 +1,7 @@
 -- The rounds as the code runs them: what is known at each turn of its loops.
 use Prim.Native.Nat.{ℕ, zero, suc, _+_, _-_, _≤_, _<_}
 use mathlib.Core.Path.{_≡_, refl, sym, ap, ap₂, subst, _∙_}
-use mathlib.Core.List.{List, [], _∷_, _++_, map}
-use mathlib.Core.Bool.{true, false}
+use mathlib.Core.List.{List, [], _∷_, _++_}
 use native.Mathlib.Omega.{arith}
 use native.Mathlib.Nat.{not-suc-le-zero, min-le-left}
 use native.Mathlib.Numerals.{add-one}
@@ -11,13 +10,8 @@ use lib.Seq.{take-all, take-append-seam, getD-take, length-take-le}
 use lib.Dec.{eqb}
 use borrow.Author.Tests.{eq-eqb, ne-eqb}
 use Rattle.lists.specs.Tests.{by-test}
-use Rattle.lists.specs.Member.{Mem, elem, not-mem-elem, mem-map, mem-getD}
+use Rattle.lists.specs.Member.{Mem, elem, not-mem-elem}
 use Rattle.lists.specs.Parts.{copiedOver}
-use Rattle.graph.specs.CheckLaws.{Passed}
-use Rattle.graph.specs.Edges.{edgeCount, farEnd, edgesAt, neighbors}
-use Rattle.graph.specs.NeighborLaws.{neighbors-far-ends, passed-neighbor}
-use Rattle.graph.specs.Stretch.{stretch}
-use Rattle.graph.specs.StretchLaws.{Table}
 use Rattle.graph.specs.Colored.{colorOf}
 use Rattle.graph.specs.ColoredLaws.{color-read}
 use Rattle.greedy.specs.Turn.{uncolored}

@@ -1,5 +1,6 @@
 // The list of uncoloured items: an array of items with a length, and each listed item's place in it. Places are never cleared: an
-// item is listed if its place is below the length and the item stands there.
+// item is listed if its place is below the length and the item stands there. Where an index would lie outside a slice nothing is
+// changed; in a list that holds it never does.
 ghost use mathlib.Core.Path.{_≡_};
 ghost use mathlib.Core.Bool.{true};
 ghost use Prim.Native.Nat.{ℕ, _-_, _≤_, _<_};

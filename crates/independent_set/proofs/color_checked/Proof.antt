@@ -1,3 +1,4 @@
+-- `color_checked` meets its contract: the rounds start from the presets and the items without one.
 use mathlib.Core.Path.{_∙_, refl, sym}
 use native.Mathlib.Omega.{arith}
 use borrow.Author.Needs.{needs}
@@ -7,8 +8,6 @@ use Rattle.listing.specs.Listing.{listing-at}
 use Rattle.independent_set.specs.Rounds.{colors-answer}
 use Rattle.independent_set.proofs.color_checked.Statement.{statement}
 use Rattle.independent_set.proofs.color_checked.Tie as tie
-
--- `color_checked` meets its contract: the rounds start from the presets and the items without one.
 
 color-rounds-requires : tie.Need-color-rounds-requires
 color-rounds-requires c κs =
@@ -23,9 +22,8 @@ color-rounds-requires c κs =
 
 returns : tie.Need-returns
 returns c =
-    let pre = c .before .before .before .before .before .before .before .before .before .before .before .before .before .before .before .before .before .before .before .before .before .before .before .before .before .before .before .before .before .pre in
-    let l = c .before .before .before .before .before .before .before .before .before .before .before .before .before .before .list-uncolored .ensures _ (items-few _ _ (pre .0) (pre .1 .0)) (pre .1 .1) refl refl in
-    colors-answer _ _ _ _ _ _ _ _ l (c .before .before .before .before .before .before .before .before .before .before .before .before .before .before .before .before .before .before .before .copy-colors .ensures ∙ copied-same _ _ (pre .1 .2 ∙ sym (pre .1 .1))) (c .before .before .before .before .before .color-rounds .ensures)
+    colors-answer _ _ _ _ _ _ _ _ (c .before .before .before .before .before .before .before .before .before .before .before .before .before .before .list-uncolored .ensures _ (items-few _ _ (c .before .before .before .before .before .before .before .before .before .before .before .before .before .before .before .before .before .before .before .before .before .before .before .before .before .before .before .before .before .pre .0) (c .before .before .before .before .before .before .before .before .before .before .before .before .before .before .before .before .before .before .before .before .before .before .before .before .before .before .before .before .before .pre .1 .0)) (c .before .before .before .before .before .before .before .before .before .before .before .before .before .before .before .before .before .before .before .before .before .before .before .before .before .before .before .before .before .pre .1 .1) refl refl)
+    (c .before .before .before .before .before .before .before .before .before .before .before .before .before .before .before .before .before .before .before .copy-colors .ensures ∙ copied-same _ _ (c .before .before .before .before .before .before .before .before .before .before .before .before .before .before .before .before .before .before .before .before .before .before .before .before .before .before .before .before .before .pre .1 .2 ∙ sym (c .before .before .before .before .before .before .before .before .before .before .before .before .before .before .before .before .before .before .before .before .before .before .before .before .before .before .before .before .before .pre .1 .1))) (c .before .before .before .before .before .color-rounds .ensures)
 
 pub color-checked-spec : {M : Type 1} → statement M
 color-checked-spec =

@@ -1,3 +1,4 @@
+-- `color_rounds` meets its contract. The invariant: the rounds that are left lead to the answer.
 use Prim.Native.Nat.{_-_}
 use mathlib.Core.Path.{sym}
 use native.Mathlib.Omega.{arith}
@@ -10,8 +11,6 @@ use Rattle.listing.specs.Listing.{held-at}
 use Rattle.independent_set.specs.Rounds.{Rounding, round-held, round-more, rounds-done, rounds-over, rounds-start}
 use Rattle.independent_set.proofs.rounds.color_rounds.Statement.{statement}
 use Rattle.independent_set.proofs.rounds.color_rounds.Tie as tie
-
--- `color_rounds` meets its contract. The invariant: the rounds that are left lead to the answer.
 
 abbrev Inv-loop : tie.InvT-loop
 Inv-loop items ends starts entries presets listed₀ place₀ next₀ colors₀ len waiting₀ r₀ listed place next colors waiting r = Rounding (items .count) (neighborsOf items ends) presets listed place next waiting r colors (rounds (neighborsOf items ends) (items .count) presets (items .count) 0 (take len listed₀) colors₀)
