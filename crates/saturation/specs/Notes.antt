@@ -111,6 +111,10 @@ room-left colors us ws s₀ w₀ m₀ s w m room noted = record {
       );
 }
 
+pub notes-none : (kind : Kind) (ends colors edges : List ℕ) (v : ℕ) (s w m : List ℕ) → Noted colors (acrossAll kind ends v (take 0 edges)) s w m s w m
+unfolding acrossAll
+notes-none kind ends colors edges v s w m = noted-none colors s w m
+
 module _ (kind : Kind) (ends colors edges : List ℕ) (v : ℕ) (s₀ w₀ m₀ s w m : List ℕ) (i : ℕ) where
   -- The items of the edges passed, and of those left.
   abbrev passed : List ℕ
@@ -119,10 +123,6 @@ module _ (kind : Kind) (ends colors edges : List ℕ) (v : ℕ) (s₀ w₀ m₀ 
   across-cut : i < length edges → acrossAll kind ends v edges ≡ passed ++ acrossOf kind ends (getD edges i 0) v ∷ acrossAll kind ends v (drop (suc i) edges)
   unfolding acrossAll
   across-cut h = ap (map (λ (k : ℕ). acrossOf kind ends k v)) (sym (take-append-drop i edges) ∙ ap (λ (l : List ℕ). take i edges ++ l) (drop-cons edges i 0 h)) ∙ map-append (λ (k : ℕ). acrossOf kind ends k v) (take i edges) (getD edges i 0 ∷ drop (suc i) edges)
-
-  pub notes-none : Noted colors (acrossAll kind ends v (take 0 edges)) s w m s w m
-  unfolding acrossAll
-  notes-none = noted-none colors s w m
 
   -- The next item has room.
   pub notes-room : Room colors (acrossAll kind ends v edges) s₀ w₀ m₀ → Noted colors passed s₀ w₀ m₀ s w m → i < length edges

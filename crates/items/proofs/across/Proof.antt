@@ -5,10 +5,10 @@ use Rattle.items.proofs.across.Statement.{statement}
 use Rattle.items.proofs.across.Tie as tie
 
 returns : tie.Need-returns
-returns c = search (needs, node-across)
+returns c = node-across _ _ _ _ _ (c .before .enum-told .given .1) (c .far-end .ensures)
 
 returns-2 : tie.Need-returns-2
-returns-2 c = search (needs, edge-across)
+returns-2 c = edge-across _ _ _ _ (c .enum-told2 .given .1)
 
 pub across-spec : {M : Type 1} → statement M
 across-spec = tie.close (tie.spec (λ c. search needs) (λ c κs. search needs) (λ c. search needs) returns returns-2)

@@ -5,10 +5,10 @@ use Rattle.items.proofs.first_node.Statement.{statement}
 use Rattle.items.proofs.first_node.Tie as tie
 
 returns : tie.Need-returns
-returns c = search (needs, node-first)
+returns c = node-first _ _ _ (c .enum-told .given .1)
 
 returns-2 : tie.Need-returns-2
-returns-2 c = search (needs, edge-first)
+returns-2 c = edge-first _ _ _ _ (c .before .before .enum-told2 .given .1) (c .end-at .ensures)
 
 pub first-node-spec : {M : Type 1} → statement M
 first-node-spec =

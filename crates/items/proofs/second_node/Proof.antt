@@ -5,10 +5,10 @@ use Rattle.items.proofs.second_node.Statement.{statement}
 use Rattle.items.proofs.second_node.Tie as tie
 
 returns : tie.Need-returns
-returns c = search (needs, node-second)
+returns c = node-second _ _ _ (c .enum-told .given .1)
 
 returns-2 : tie.Need-returns-2
-returns-2 c = search (needs, edge-second)
+returns-2 c = edge-second _ _ _ _ (c .before .before .enum-told2 .given .1) (c .end-at .ensures)
 
 pub second-node-spec : {M : Type 1} → statement M
 second-node-spec =

@@ -6,7 +6,7 @@ use Rattle.saturation.proofs.counts.note.Statement.{statement}
 use Rattle.saturation.proofs.counts.note.Tie as tie
 
 returns : tie.Need-returns
-returns c = search (needs, note-colored)
+returns c = note-colored _ _ _ _ _ (c .before .before .before .pre .0 .0) (c .if1 .taken)
 
 sub-waiting : tie.Need-sub-waiting
 sub-waiting c = c .before .before .before .before .pre .1 (c .before .if1 .left) .0

@@ -1,6 +1,6 @@
 -- `note_all` meets its contract. The invariant: the items along the edges passed have noted the colour.
 use Prim.Native.Nat.{_≤_, _-_}
-use mathlib.Core.Path.{_≡_}
+use mathlib.Core.Path.{_≡_, refl}
 use native.Mathlib.Omega.{arith}
 use lib.ListN.{length, take}
 use borrow.Author.Needs.{needs}
@@ -16,7 +16,7 @@ abbrev μ-loop : tie.MeasureT-loop
 μ-loop kind ends edges colors saturations₀ waiting₀ marks₀ node i₀ saturations waiting marks i = length edges - i
 
 loop-holds : tie.Need-loop-holds Inv-loop μ-loop
-loop-holds c = search (needs, notes-none)
+loop-holds c = (omega arith, refl, refl, refl, notes-none _ _ _ (c .before .before .before .before .before .before .args .edges .now) _ _ _ _)
 
 note-requires : tie.Need-note-requires Inv-loop μ-loop
 note-requires c κs =
@@ -30,7 +30,7 @@ loop-again : tie.Need-loop-again Inv-loop μ-loop
 loop-again c = (search needs, search needs, search needs, search needs, notes-more _ _ _ _ _ _ _ _ _ _ _ _ _ _ _ (c .before .before .before .before .before .before .before .before .before .before .before .before .before .loop .inv .4) (c .before .before .before .before .before .before .before .before .before .before .before .before .loop-test .taken) _ (c .before .before .before .before .before .before .before .before .before .before .across .ensures) (c .before .before .before .before .before .before .note .ensures))
 
 returns : tie.Need-returns Inv-loop μ-loop
-returns c = search (needs, notes-all)
+returns c = let i = c .before .loop .inv in notes-all _ _ _ _ _ _ _ _ _ _ _ _ (i .4) (i .0) (c .loop-test .left)
 
 pub note-all-spec : {M : Type 1} → statement M
 note-all-spec =

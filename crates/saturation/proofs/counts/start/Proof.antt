@@ -1,6 +1,6 @@
 -- `start` meets its contract. The invariant: the items passed have no colour and wait for all their neighbours.
 use Prim.Native.Nat.{_≤_, _-_}
-use mathlib.Core.Path.{_≡_}
+use mathlib.Core.Path.{_≡_, refl}
 use native.Mathlib.Omega.{arith}
 use lib.ListN.{length}
 use borrow.Author.Needs.{needs}
@@ -16,7 +16,7 @@ abbrev μ-loop : tie.MeasureT-loop
 μ-loop kind ends starts entries colors₀ waiting₀ v₀ colors waiting v = length colors₀ - v
 
 loop-holds : tie.Need-loop-holds Inv-loop μ-loop
-loop-holds c = search (needs, started-none)
+loop-holds c = (omega arith, refl, refl, started-none _ _ _)
 
 cast-waiting : tie.Need-cast-waiting Inv-loop μ-loop
 cast-waiting c = omega (arith, c .loop-test .taken, c .before .loop .inv .1, items-few _ _ _ (c .before .before .before .before .before .before .before .pre .0 .sized))
