@@ -14,7 +14,7 @@ run-requires c κs =
     (items-tabled _ _ _ _ _ colors (p .0) (c .before .before .before .before .before .before .before .incidence-front .ensures .1 .1 (p .0) (omega (arith, p .0 .nodes)) (omega (arith, p .0 .even, p .0 .edges))) e, (e ∙ sym (p .1 .0), refl, refl))
 
 returns : tie.Need-returns
-returns c = let p = c .before .before .before .before .before .before .before .before .before .before .before .before .before .before .before .before .before .before .before .before .pre in (c .days-of .ensures, run-answer _ _ _ _ _ _ (p .0) (c .before .before .before .before .before .before .run .ensures) (p .1 .1))
+returns c = (c .days-of .ensures, search (needs, run-answer))
 
 pub color-checked-spec : {M : Type 1} → statement M
 color-checked-spec =
