@@ -10,7 +10,7 @@ use native.Mathlib.Numerals.{add-one}
 use lib.ListN.{length, getD, set, take, length-set}
 use lib.Seq.{getD-set-same, getD-set-other, getD-take, length-take-le, take-set-lt, take-suc-set, take-take}
 use lib.Dec.{eqb}
-use borrow.Author.Tests.{eq-eqb, ne-eqb, eqb-true, eqb-false}
+use borrow.Author.Tests.{eqb-true, eqb-false}
 use Rattle.lists.specs.Tests.{by-test, dec-eq}
 use Rattle.lists.specs.Member.{Mem, elem, elem-true, mem-elem, not-mem-elem, mem-getD, place-of}
 use Rattle.graph.specs.ColoredLaws.{color-read, colored-true, uncolored-false}
@@ -34,6 +34,13 @@ pub record Held (n : ℕ) (listed place next : List ℕ) (len end : ℕ) (s : Li
   pub apart : (i j : ℕ) → i < len → j < end → getD listed i 0 ≢ getD next j 0
   pub total : len + end ≤ n
 
+-- Of lists that are held this much can be seen without looking at them: the arrays have their size, and there is room for every listed item in the next list.
+pub record Sized (listed place next : List ℕ) (len end : ℕ) : Type 0 where
+  pub first : length listed ≡ 4096
+  pub places : length place ≡ 4096
+  pub second : length next ≡ 4096
+  pub total : len + end ≤ 4096
+
 -- What two arrays hold.
 abbrev pub listsAt : List ℕ → List ℕ → ℕ → ℕ → Lists
 listsAt listed next len end = record { listed = take len listed; next = take end next }
@@ -48,6 +55,9 @@ held-at n listed place next len end s h = rw (lists-held n listed place next len
 
 pub listing-at : (n : ℕ) (listed place : List ℕ) (len : ℕ) (items : List ℕ) → Listing n listed place len items → Listing n listed place len (take len listed)
 listing-at n listed place len items l = rw (l .held) l
+
+pub held-sized : (n : ℕ) (listed place next : List ℕ) (len end : ℕ) (s : Lists) → Held n listed place next len end s → (length listed ≡ 4096 → length place ≡ 4096 → length next ≡ 4096 → len + end ≤ 4096 → ⊥) → ⊥
+held-sized n listed place next len end s h d = d (h .first .size) (h .first .places) (h .second .size) (omega (arith, h .total, h .first .few))
 
 -- ---- one list
 
@@ -90,11 +100,11 @@ place-same n listed place len items l v p =
 pub not-listed : (n : ℕ) (listed place : List ℕ) (len : ℕ) (items : List ℕ) (v : ℕ) → Listing n listed place len items → len ≤ getD place v 0 → false ≡ elem v items
 not-listed n listed place len items v l h = sym (not-mem-elem v items (λ p. omega (arith, item-place n listed place len items l v p .0)))
 
-pub listed-there : (n : ℕ) (listed place : List ℕ) (len : ℕ) (items : List ℕ) (v : ℕ) → Listing n listed place len items → getD place v 0 < len → eqb (getD listed (getD place v 0) 0) v ≡ elem v items
-listed-there n listed place len items v l h = elim (dec-eq (getD listed (getD place v 0) 0) v) [
-  | inl e ↦ eq-eqb (getD listed (getD place v 0) 0) v e ∙ sym (mem-elem v items (subst (λ (x : ℕ). Mem x items) e (place-item n listed place len items l (getD place v 0) h)))
-  | inr e ↦ ne-eqb (getD listed (getD place v 0) 0) v e ∙ sym (not-mem-elem v items (λ p. e (item-place n listed place len items l v p .1)))
-]
+pub not-there : (n : ℕ) (listed place : List ℕ) (len : ℕ) (items : List ℕ) (v : ℕ) → Listing n listed place len items → (getD listed (getD place v 0) 0 ≡ v → ⊥) → false ≡ elem v items
+not-there n listed place len items v l d = sym (not-mem-elem v items (λ p. d (item-place n listed place len items l v p .1)))
+
+pub listed-there : (n : ℕ) (listed place : List ℕ) (len : ℕ) (items : List ℕ) (v : ℕ) → Listing n listed place len items → getD place v 0 < len → getD listed (getD place v 0) 0 ≡ v → true ≡ elem v items
+listed-there n listed place len items v l h e = sym (mem-elem v items (subst (λ (x : ℕ). Mem x items) e (place-item n listed place len items l (getD place v 0) h)))
 
 -- ---- one item more
 
@@ -259,10 +269,3 @@ module _ (n : ℕ) (listed place next : List ℕ) (len end : ℕ) (s : Lists) (h
   pub put-off-other : r ≡ false → Held n listed place next len end (putOff s v)
   unfolding putOff
   put-off-other t = rw (sym e ∙ t) h
-
-  -- What the code asks for on the way.
-  pub put-off-place : r ≡ true → getD place v 0 < len
-  put-off-place t = item-place n listed place len (s .listed) (h .first) v (elem-true v (s .listed) (sym e ∙ t)) .0
-
-  pub put-off-room : r ≡ true → (0 < len) × (end < 4096) × (length next ≡ 4096)
-  put-off-room t = let p = put-off-place t in (omega arith, omega (arith, h .total, h .first .few), h .second .size)

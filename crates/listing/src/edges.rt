@@ -11,11 +11,12 @@ ghost use Rattle.graph.specs.StretchLaws.{Table};
 ghost use Rattle.line_graph.specs.LineNeighbors.{higherEnd, lowerEnd};
 ghost use Rattle.greedy.specs.Call.{edgeNeighbors};
 ghost use Rattle.greedy.specs.IndependentSet.{placeOf, putOffAll};
-ghost use Rattle.listing.specs.Listing.{Held, listsAt};
+ghost use Rattle.listing.specs.Listing.{Sized, Held, listsAt};
 ghost use Rattle.listing.specs.Edges.{partIn};
 ghost use Rattle.listing.specs.Neighbors.{partAt};
 use crate::Item;
 use crate::list::Counts;
+use crate::list::cannot_hold;
 use crate::list::put_off;
 use graph::EdgeIndex;
 use graph::NodeIndex;
@@ -58,6 +59,8 @@ fn put_off_part(
     next: &mut [u16],
     counts: Counts,
 ) -> Counts
+    requires { ⌜ Sized (now listed) (now place) (now next) (counts .listed) (counts .next) ⌝ }
+    ensures { λ r. ⌜ Sized (now (listed .exit)) (now (place .exit)) (now (next .exit)) (r .listed) (r .next) ⌝ }
     ensures { λ r. ⌜ ((n : ℕ) → Held n (now (listed .entry)) (now (place .entry)) (now (next .entry)) (counts .listed) (counts .next) (listsAt (now (listed .entry)) (now (next .entry)) (counts .listed) (counts .next))
         → ((j : ℕ) → Mem j (now (edges .entry)) → j < n)
         → Held n (now (listed .exit)) (now (place .exit)) (now (next .exit)) (r .listed) (r .next) (putOffAll (listsAt (now (listed .entry)) (now (next .entry)) (counts .listed) (counts .next)) (reverse (now (edges .entry))))) ⌝ }
@@ -133,6 +136,9 @@ pub fn put_off_sharing(
         (putOffAll (listsAt (now (listed .entry)) (now (next .entry)) (counts .listed) (counts .next)) (edgeNeighbors n (now (ends .entry)) (edge .0)))) ⌝ }
 {
     let mut reached = counts;
+    if cannot_hold(listed.len(), place.len(), next.len(), counts) {
+        return reached;
+    }
     let mut turn = 0;
     while turn < 4 {
         let part = part_at(ends, starts, entries, edge, turn);

@@ -2,13 +2,12 @@
 // item is listed if its place is below the length and the item stands there. Where an index would lie outside a slice nothing is
 // changed; in a list that holds it never does.
 ghost use mathlib.Core.Path.{_≡_};
-ghost use mathlib.Core.Bool.{true};
-ghost use Prim.Native.Nat.{ℕ, _-_, _≤_, _<_};
+ghost use mathlib.Core.Bool.{true, false};
+ghost use Prim.Native.Nat.{ℕ, _+_, _-_, _≤_, _<_};
 ghost use lib.ListN.{length, getD, set, take};
-ghost use Rattle.lists.specs.Member.{elem};
 ghost use Rattle.greedy.specs.Turn.{uncolored};
 ghost use Rattle.greedy.specs.IndependentSet.{putOff};
-ghost use Rattle.listing.specs.Listing.{Listing, Held, listsAt};
+ghost use Rattle.listing.specs.Listing.{Listing, Sized, Held, listsAt};
 use crate::Item;
 use graph::Color;
 
@@ -47,25 +46,6 @@ pub fn list_uncolored(presets: &[u16], listed: &mut [u16], place: &mut [u16]) ->
     len
 }
 
-// Whether an item is listed. A listed item has a place, and the list is not empty.
-fn is_listed(listed: &[u16], place: &[u16], len: usize, item: Item) -> bool
-    ensures { λ r. ⌜ ((n : ℕ) → Listing n (now (listed .entry)) (now (place .entry)) len (take len (now (listed .entry))) → item .0 < n → r ≡ elem (item .0) (take len (now (listed .entry)))) ⌝ }
-    ensures { λ r. ⌜ (r ≡ true → (item .0 < length (now (place .entry))) × (0 < len)) ⌝ }
-{
-    let v = item.0 as usize;
-    if place.len() <= v {
-        return false;
-    }
-    let at = place[v] as usize;
-    if len <= at {
-        return false;
-    }
-    if listed.len() <= at {
-        return false;
-    }
-    listed[at] == item.0
-}
-
 // Takes a listed item out: the last of the list goes to its place.
 pub fn take_out(listed: &mut [u16], place: &mut [u16], len: usize, item: Item)
     ensures { λ _. ⌜ ((n : ℕ) → Listing n (now (listed .entry)) (now (place .entry)) len (take len (now (listed .entry))) → item .0 < n → getD (now (place .entry)) (item .0) 0 < len
@@ -93,6 +73,29 @@ pub fn take_out(listed: &mut [u16], place: &mut [u16], len: usize, item: Item)
     place[moved] = hole;
 }
 
+// Whether slices of these lengths cannot hold the lists that are counted. It is asked once, before a walk, so that a step of the walk
+// asks only about the numbers that it meets.
+pub(crate) fn cannot_hold(listed: usize, place: usize, next: usize, counts: Counts) -> bool
+    ensures { λ r. ⌜ (r ≡ true → listed ≡ 4096 → place ≡ 4096 → next ≡ 4096 → counts .listed + counts .next ≤ 4096 → ⊥) ⌝ }
+    ensures { λ r. ⌜ (r ≡ false → (listed ≡ 4096) × (place ≡ 4096) × (next ≡ 4096) × (counts .listed + counts .next ≤ 4096)) ⌝ }
+{
+    if listed != 4096 {
+        return true;
+    }
+    if place != 4096 {
+        return true;
+    }
+    if next != 4096 {
+        return true;
+    }
+    let len = counts.listed;
+    let end = counts.next;
+    if 4096 < len {
+        return true;
+    }
+    4096 - len < end
+}
+
 // A listed item is taken out and goes to the end of the next list.
 pub(crate) fn put_off(
     listed: &mut [u16],
@@ -101,26 +104,36 @@ pub(crate) fn put_off(
     counts: Counts,
     item: Item,
 ) -> Counts
+    requires { ⌜ Sized (now listed) (now place) (now next) (counts .listed) (counts .next) ⌝ }
+    ensures { λ r. ⌜ Sized (now (listed .exit)) (now (place .exit)) (now (next .exit)) (r .listed) (r .next) ⌝ }
     ensures { λ r. ⌜ ((n : ℕ) → Held n (now (listed .entry)) (now (place .entry)) (now (next .entry)) (counts .listed) (counts .next) (listsAt (now (listed .entry)) (now (next .entry)) (counts .listed) (counts .next)) → item .0 < n
         → Held n (now (listed .exit)) (now (place .exit)) (now (next .exit)) (r .listed) (r .next) (putOff (listsAt (now (listed .entry)) (now (next .entry)) (counts .listed) (counts .next)) (item .0))) ⌝ }
 {
     let len = counts.listed;
     let end = counts.next;
-    if is_listed(listed, place, len, item) {
-        if next.len() <= end {
-            return counts;
-        }
-        if 4096 <= end {
-            return counts;
-        }
-        let v = item.0 as usize;
-        take_out(listed, place, len, item);
-        next[end] = item.0;
-        place[v] = end as u16;
-        return Counts {
-            listed: len - 1,
-            next: end + 1,
-        };
+    let v = item.0 as usize;
+    if 4096 <= v {
+        return counts;
     }
-    counts
+    let hole = place[v];
+    let at = hole as usize;
+    if len <= at {
+        return counts;
+    }
+    if listed[at] != item.0 {
+        return counts;
+    }
+    let last = listed[len - 1];
+    let moved = last as usize;
+    if 4096 <= moved {
+        return counts;
+    }
+    listed[at] = last;
+    place[moved] = hole;
+    next[end] = item.0;
+    place[v] = end as u16;
+    Counts {
+        listed: len - 1,
+        next: end + 1,
+    }
 }

@@ -7,6 +7,7 @@ ghost use Rattle.greedy.specs.IndependentSet.{putOffAll};
 ghost use Rattle.listing.specs.Listing.{Held, listsAt};
 use crate::Item;
 use crate::list::Counts;
+use crate::list::cannot_hold;
 use crate::list::put_off;
 use graph::EdgeIndex;
 use graph::NodeIndex;
@@ -29,8 +30,11 @@ pub fn put_off_far_ends(
         → Held n (now (listed .exit)) (now (place .exit)) (now (next .exit)) (r .listed) (r .next)
         (putOffAll (listsAt (now (listed .entry)) (now (next .entry)) (counts .listed) (counts .next)) (neighbors (now (ends .entry)) (edgeCount (now (ends .entry))) (node .0)))) ⌝ }
 {
-    let edges = edges_at(starts, entries, node);
     let mut reached = counts;
+    if cannot_hold(listed.len(), place.len(), next.len(), counts) {
+        return reached;
+    }
+    let edges = edges_at(starts, entries, node);
     let mut i = 0;
     while i < edges.len() {
         let far = far_end(ends, EdgeIndex(edges[i]), node);
