@@ -34,7 +34,7 @@ pub record Held (n : ℕ) (listed place next : List ℕ) (len end : ℕ) (s : Li
   pub apart : (i j : ℕ) → i < len → j < end → getD listed i 0 ≢ getD next j 0
   pub total : len + end ≤ n
 
--- Of lists that are held this much can be seen without looking at them: the arrays have their size, and there is room for every listed item in the next list.
+-- What is seen of held lists without a look into them: the arrays have their length, and the next list has room for every listed item.
 pub record Sized (listed place next : List ℕ) (len end : ℕ) : Type 0 where
   pub first : length listed ≡ 4096
   pub places : length place ≡ 4096
@@ -56,6 +56,7 @@ held-at n listed place next len end s h = rw (lists-held n listed place next len
 pub listing-at : (n : ℕ) (listed place : List ℕ) (len : ℕ) (items : List ℕ) → Listing n listed place len items → Listing n listed place len (take len listed)
 listing-at n listed place len items l = rw (l .held) l
 
+-- So lists that are held never fail that test.
 pub held-sized : (n : ℕ) (listed place next : List ℕ) (len end : ℕ) (s : Lists) → Held n listed place next len end s → (length listed ≡ 4096 → length place ≡ 4096 → length next ≡ 4096 → len + end ≤ 4096 → ⊥) → ⊥
 held-sized n listed place next len end s h d = d (h .first .size) (h .first .places) (h .second .size) (omega (arith, h .total, h .first .few))
 

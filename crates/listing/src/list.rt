@@ -1,6 +1,6 @@
 // The list of uncoloured items: an array of items with a length, and each listed item's place in it. Places are never cleared: an
 // item is listed if its place is below the length and the item stands there. Where an index would lie outside a slice nothing is
-// changed; in a list that holds it never does.
+// changed: that is so only where the slices hold no such list.
 ghost use mathlib.Core.Path.{_≡_};
 ghost use mathlib.Core.Bool.{true, false};
 ghost use Prim.Native.Nat.{ℕ, _+_, _-_, _≤_, _<_};
@@ -116,11 +116,11 @@ pub(crate) fn put_off(
         return counts;
     }
     let hole = place[v];
-    let at = hole as usize;
-    if len <= at {
+    let here = hole as usize;
+    if len <= here {
         return counts;
     }
-    if listed[at] != item.0 {
+    if listed[here] != item.0 {
         return counts;
     }
     let last = listed[len - 1];
@@ -128,7 +128,7 @@ pub(crate) fn put_off(
     if 4096 <= moved {
         return counts;
     }
-    listed[at] = last;
+    listed[here] = last;
     place[moved] = hole;
     next[end] = item.0;
     place[v] = end as u16;

@@ -11,8 +11,8 @@ use Rattle.listing.proofs.list.put_off.Tie as tie
 returns : tie.Need-returns
 returns c = (c .before .before .pre, λ n h b. absurd (omega (arith, h .first .few)))
 
-cast-at : tie.Need-cast-at
-cast-at c = omega (arith, c .slice-known .given (c .before .before .before .args .item .0))
+cast-here : tie.Need-cast-here
+cast-here c = omega (arith, c .slice-known .given (c .before .before .before .args .item .0))
 
 returns-2 : tie.Need-returns-2
 returns-2 c = (c .before .before .before .before .pre, λ n h b. put-off-other _ _ _ _ _ _ _ h _ _ (not-listed _ _ _ _ _ _ (h .first) (c .if2 .taken)) refl)
@@ -42,7 +42,7 @@ put-off-spec =
     (λ c. search needs)
     returns
     (λ c. search needs) (λ c. search needs)
-    cast-at
+    cast-here
     returns-2
     (λ c. search needs) (λ c. search needs)
     returns-3
