@@ -6,6 +6,7 @@ use mathlib.Core.List.{List, [], _∷_}
 use mathlib.Core.Option.{none, some}
 use mathlib.Core.Bool.{true, false≢true}
 use native.Mathlib.Omega.{arith}
+use native.Mathlib.Nat.{not-suc-le-zero}
 use lib.ListN.{length, set, take}
 use Rattle.graph.specs.Edges.{farEnd, edgesAt}
 use Rattle.graph.specs.EdgeLaws.{edge-at}
@@ -38,6 +39,17 @@ path-none ends T zero v p q e = refl
 path-none ends T (suc fuel) v p q e = elim (some-or-none (tableEdge T v p)) [
   | inl z ↦ path-stops ends T fuel v p q z
   | inr (k, z) ↦ absurd (false≢true (sym (ap isNone z) ∙ e))
+]
+
+-- A path that ends before its fuel does is the path with more fuel too.
+pub path-ended : (ends T : List ℕ) (fuel more v p q : ℕ) → length (tablePath ends T fuel v p q) < fuel → fuel ≤ more → tablePath ends T more v p q ≡ tablePath ends T fuel v p q
+path-ended ends T zero more v p q h k = absurd (not-suc-le-zero h)
+path-ended ends T (suc fuel) zero v p q h k = absurd (not-suc-le-zero k)
+path-ended ends T (suc fuel) (suc more) v p q h k = elim (some-or-none (tableEdge T v p)) [
+  | inl e ↦ path-stops ends T more v p q e ∙ sym (path-stops ends T fuel v p q e)
+  | inr (j, e) ↦
+      let goes = path-goes ends T fuel v p q j e in
+      path-goes ends T more v p q j e ∙ (ap (λ (l : List ℕ). j ∷ l) (path-ended ends T fuel more (farEnd ends j v) q p (omega (arith, ap length goes)) (omega arith)) ∙ sym goes)
 ]
 
 -- ---- with a right table

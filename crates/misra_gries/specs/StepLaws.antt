@@ -21,24 +21,24 @@ use Rattle.edge_table.specs.EdgeTable.{state, repainted, isEmpty, smallestEmpty
 use Rattle.edge_table.specs.TableOf.{TableOf, says-smallest, says-free}
 use Rattle.edge_table.specs.Repaint.{Repaintable, repaint-done}
 use Rattle.edge_table.specs.StepRepaint.{exchangedColors, rotatedColors, exchange-done, step-exchange, step-rotation}
-use Rattle.fan.specs.TablePath.{tablePath, path-none, table-path}
+use Rattle.fan.specs.TablePath.{tablePath, path-none, path-ended, table-path}
 use Rattle.fan.specs.TablePlaces.{tablePlaces, table-places, places-taken}
 use Rattle.misra_gries.specs.Range.{palette, max-degree-below}
 use Rattle.misra_gries.specs.Step.{InRange, Ready, Exchanging, Turning, Turned, topColor}
 
 -- ---- the path exchanged
 
--- The path from u along d, c stands in the first len places of an array of 512.
-pub record Followed (ends T : List ℕ) (n u d c : ℕ) (edges : List ℕ) (len : ℕ) : Type 0 where
+-- The path from u along d, c stands in the first len places of an array of `size` places.
+pub record Followed (ends T : List ℕ) (n u d c size : ℕ) (edges : List ℕ) (len : ℕ) : Type 0 where
   pub path : take len edges ≡ tablePath ends T n u d c
   pub inside : len ≤ length edges
   pub filled : len ≡ length (take len edges)
-  pub short : len ≤ 512
+  pub short : len ≤ size
 
 -- The first n places of the array A were lent to `follow`, and hold L afterwards.
 pub path-followed : (ends T : List ℕ) (n u d c : ℕ) (A L : List ℕ) (len : ℕ) → n ≤ length A → length A ≡ 512 → length L ≡ length (take n A)
     → (take len L ≡ tablePath ends T (length (take n A)) u d c) × ((len ≡ length (tablePath ends T (length (take n A)) u d c)) × (len ≤ length (take n A)))
-    → Followed ends T n u d c (L ++ drop n A) len
+    → Followed ends T n u d c 512 (L ++ drop n A) len
 path-followed ends T n u d c A L len room size kept e =
     let lent = length-take-le n A room in
     let inside : len ≤ length (L ++ drop n A) = rw (length-append L (drop n A)) (omega (arith, kept, e .1 .1)) in
@@ -47,6 +47,18 @@ path-followed ends T n u d c A L len room size kept e =
       inside = inside;
       filled = sym (length-take-le len (L ++ drop n A) inside);
       short = omega (arith, lent, e .1 .1, room, size);
+    }
+
+-- An array of `size` places was lent, and holds L afterwards: the path ended before its last place.
+pub path-few : (ends T : List ℕ) (n u d c size : ℕ) (L : List ℕ) (len : ℕ) → size ≤ n → (len ≡ size → ⊥) → length L ≡ size
+    → (take len L ≡ tablePath ends T size u d c) × ((len ≡ length (tablePath ends T size u d c)) × (len ≤ size)) → Followed ends T n u d c size L len
+path-few ends T n u d c size L len room ended kept e =
+    let inside : len ≤ length L = omega (arith, e .1 .1) in
+    record {
+      path = e .0 ∙ sym (path-ended ends T size n u d c (omega (arith, e .1 .0, e .1 .1, ended)) room);
+      inside = inside;
+      filled = sym (length-take-le len L inside);
+      short = e .1 .1;
     }
 
 module _ (ends l T : List ℕ) (n u c d : ℕ) (E : Exchanging ends n l T u c d) where

@@ -46,6 +46,35 @@ fn exchange_edges(
     len
 }
 
+// The same. A path of fewer than 32 edges takes short arrays, which are cleared sooner.
+fn exchange_few(
+    n: usize,
+    ends: &[u16],
+    work: &mut [u16],
+    table: &mut [u16],
+    node: NodeIndex,
+    c: Color,
+    d: Color,
+) -> usize
+    requires { ⌜ Exchanging (now ends) n (now work) (now table) (node .0) (c .0) (d .0) ⌝ }
+    ensures { λ r. ⌜ r ≡ length (path (now (ends .entry)) (edgeCount (now (ends .entry))) n (now (work .entry)) (node .0) (d .0) (c .0)) ⌝ }
+    ensures { λ _. ⌜ (now (work .exit) ≡ exchange (now (work .entry)) (c .0) (d .0) (path (now (ends .entry)) (edgeCount (now (ends .entry))) n (now (work .entry)) (node .0) (d .0) (c .0)))
+        × TableOf (now (ends .entry)) (edgeCount (now (ends .entry))) (now (work .exit)) (now (table .exit)) ⌝ }
+{
+    if n < 32 {
+        return exchange_edges(n, ends, work, table, node, c, d);
+    }
+    let mut edges = [0u16; 32];
+    let len = follow(ends, table, node, d, c, &mut edges);
+    if len == 32 {
+        return exchange_edges(n, ends, work, table, node, c, d);
+    }
+    let mut colors = [0u16; 32];
+    swap_colors(work, &edges[..len], c, d, &mut colors);
+    repaint(ends, work, table, &edges[..len], &colors[..len]);
+    len
+}
+
 // The same. Where d is free at the node there is no path, and no array has to be cleared for it.
 fn exchange_path(
     n: usize,
@@ -64,7 +93,7 @@ fn exchange_path(
     if is_free(table, node, d) {
         return 0;
     }
-    exchange_edges(n, ends, work, table, node, c, d)
+    exchange_few(n, ends, work, table, node, c, d)
 }
 
 // Each of the fan's places takes the colour of the next, the last takes d.
@@ -81,6 +110,20 @@ fn rotate_places(ends: &[u16], work: &mut [u16], table: &mut [u16], fan: &[u16],
     repaint(ends, work, table, fan, &colors[..len]);
 }
 
+// The same for a fan of at most 32 places, by a short array, which is cleared sooner.
+fn rotate_few(ends: &[u16], work: &mut [u16], table: &mut [u16], fan: &[u16], d: Color)
+    requires { ⌜ TableOf (now ends) (edgeCount (now ends)) (now work) (now table) ⌝ }
+    requires { ⌜ Repaintable (now ends) (edgeCount (now ends)) (now work) (now fan) (rotatedColors (now work) (drop 1 (now fan)) (d .0)) ⌝ }
+    requires { ⌜ (1 ≤ length (now fan)) × (length (now fan) ≤ 32) ⌝ }
+    ensures { λ _. ⌜ (now (work .exit) ≡ store (now (work .entry)) (now (fan .entry)) (rotatedColors (now (work .entry)) (drop 1 (now (fan .entry))) (d .0)))
+        × TableOf (now (ends .entry)) (edgeCount (now (ends .entry))) (now (work .exit)) (now (table .exit)) ⌝ }
+{
+    let mut colors = [0u16; 32];
+    let len = fan.len();
+    shift_colors(work, fan, d, &mut colors);
+    repaint(ends, work, table, fan, &colors[..len]);
+}
+
 // The same. Where the fan has one place, only that takes d, and no array has to be cleared for it.
 fn rotate_fan(ends: &[u16], work: &mut [u16], table: &mut [u16], fan: &[u16], d: Color)
     requires { ⌜ TableOf (now ends) (edgeCount (now ends)) (now work) (now table) ⌝ }
@@ -92,6 +135,10 @@ fn rotate_fan(ends: &[u16], work: &mut [u16], table: &mut [u16], fan: &[u16], d:
     if fan.len() == 1 {
         let colors = [d.0; 1];
         repaint(ends, work, table, fan, &colors);
+        return;
+    }
+    if fan.len() <= 32 {
+        rotate_few(ends, work, table, fan, d);
         return;
     }
     rotate_places(ends, work, table, fan, d);

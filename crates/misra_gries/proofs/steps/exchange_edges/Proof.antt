@@ -12,7 +12,7 @@ use Rattle.misra_gries.proofs.steps.exchange_edges.Tie as tie
 
 -- What `follow` leaves in the array of edges.
 followed : (f : tie.After-follow)
-    → Followed (f .before .before .before .before .before .before .args .ends .now) (f .before .before .before .before .before .before .args .table .now) (f .before .before .before .before .before .before .args .n) (f .before .before .before .before .before .before .args .node .0) (f .before .before .before .before .before .before .args .d .0) (f .before .before .before .before .before .before .args .c .0)
+    → Followed (f .before .before .before .before .before .before .args .ends .now) (f .before .before .before .before .before .before .args .table .now) (f .before .before .before .before .before .before .args .n) (f .before .before .before .before .before .before .args .node .0) (f .before .before .before .before .before .before .args .d .0) (f .before .before .before .before .before .before .args .c .0) 512
     (f .follow .last .1 .1 .1 .1 .1 .0 ++ drop (f .before .before .before .before .before .before .args .n) (replicate 512 0)) (f .follow .result)
 followed f = path-followed _ _ _ _ _ _ (replicate 512 0) (f .follow .last .1 .1 .1 .1 .1 .0) _ (f .before .before .before .before .before .before .pre .nodes) refl (f .follow .kept .1 .1 .1 .1 .1 .0) (f .follow .ensures)
 

@@ -13,4 +13,4 @@ exchange-path-spec =
     (tie.spec
     (λ c κs. tt) (λ c. refl)
     returns
-    (λ c κs. c .before .before .before .before .before .before .before .before .pre) (λ c. c .before .before .before .before .exchange-edges .kept .1 .1 .0) (λ c. c .before .before .before .before .exchange-edges .kept .1 .1 .1 .0) (λ c. c .before .before .before .before .exchange-edges .ensures))
+    (λ c κs. c .before .before .before .before .before .before .before .before .pre) (λ c. c .before .before .before .before .exchange-few .kept .1 .1 .0) (λ c. c .before .before .before .before .exchange-few .kept .1 .1 .1 .0) (λ c. c .before .before .before .before .exchange-few .ensures))

@@ -7,10 +7,15 @@ use Rattle.misra_gries.proofs.steps.rotate_fan.Tie as tie
 returns : tie.Need-returns
 returns c = fan-of-one _ _ _ _ _ (c .before .before .before .before .before .before .before .before .before .before .before .before .before .pre .0) (c .before .before .before .before .before .before .before .before .before .before .before .before .before .pre .1 .0) (c .before .before .before .before .before .before .before .before .if1 .taken) _ _ (c .before .before .before .before .repaint .ensures)
 
+rotate-few-requires : tie.Need-rotate-few-requires
+rotate-few-requires c κs = let p = c .before .before .before .before .before .before .before .before .pre in (p .0, (p .1 .0, (p .1 .1 .0, c .before .before .if2 .taken)))
+
 pub rotate-fan-spec : {M : Type 1} → statement M
 rotate-fan-spec =
     tie.close
     (tie.spec
     (λ c. refl) (λ c κs. tt) (λ c. c .before .before .before .before .repaint .kept .1 .0) (λ c. c .before .before .before .before .repaint .kept .1 .1 .0)
     returns
-    (λ c κs. c .before .before .before .before .before .before .before .pre) (λ c. c .before .before .before .before .rotate-places .kept .1 .0) (λ c. c .before .before .before .before .rotate-places .kept .1 .1 .0) (λ c. c .before .before .before .before .rotate-places .ensures))
+    rotate-few-requires
+    (λ c. c .before .before .before .before .rotate-few .kept .1 .0) (λ c. c .before .before .before .before .rotate-few .kept .1 .1 .0) (λ c. c .before .before .before .before .rotate-few .ensures)
+    (λ c κs. c .before .before .before .before .before .before .before .before .pre) (λ c. c .before .before .before .before .rotate-places .kept .1 .0) (λ c. c .before .before .before .before .rotate-places .kept .1 .1 .0) (λ c. c .before .before .before .before .rotate-places .ensures))
