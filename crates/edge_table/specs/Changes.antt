@@ -65,7 +65,7 @@ module _ (ends : List ℕ) (m : ℕ) (l T : List ℕ) (L : TableOf ends m l T) (
   changed c x = enteredAtEnds ends T k c x
 
   changed-at : (c x v : ℕ) → c < 576 → At ends k v → entryAt (changed c x) v c ≡ x
-  changed-at c x v b = entry-at-end ends T k c x v b (omega (arith, L .table-size, L .fits .nodes k h .0)) (omega (arith, L .table-size, L .fits .nodes k h .1))
+  changed-at c x v b = let n = L .fits .nodes k h in entry-at-end ends T k c x v n (omega (arith, L .table-size, n .0)) (omega (arith, L .table-size, n .1))
 
   changed-size : (c x : ℕ) → length (changed c x) ≡ 294912
   changed-size c x = length-entered-at-ends ends T k c x ∙ L .table-size

@@ -1,5 +1,5 @@
 -- The edge table as a list: what stands at its places, and what each function answers and leaves.
--- There is a row for each of 512 nodes, and in it a place for each of 576 colours: node v's place for colour c is v * 576 + c.
+-- There is a row for each of 576 colours, and in it a place for each of 512 nodes: colour c's place for node v is c * 512 + v.
 use Prim.Native.Nat.{ℕ, zero, suc, _+_, _*_}
 use mathlib.Core.List.{List, [], _∷_}
 use mathlib.Core.Option.{Option, none, some}
@@ -32,9 +32,9 @@ optionOf Nothing = none
 
 -- ---- what the table answers
 
--- The entry for colour c at node v. A colour of 576 or more has no place, and there is no edge past the table's end.
+-- The entry for colour c at node v. A node of 512 or more has no place, and there is no edge past the table's end.
 unfoldable pub entryAt : List ℕ → ℕ → ℕ → ℕ
-entryAt T v c = cond (ltb c 576) (getD T (v * 576 + c) noEdge) noEdge
+entryAt T v c = cond (ltb v 512) (getD T (c * 512 + v) noEdge) noEdge
 
 -- The edge of colour c at node v.
 unfoldable pub tableEdge : List ℕ → ℕ → ℕ → Option ℕ
@@ -55,9 +55,9 @@ smallestEmpty T v = emptyFrom 576 T v 0
 
 -- ---- what is entered
 
--- Entry x at node v's place for colour c, if there is one.
+-- Entry x at colour c's place for node v, if there is one.
 unfoldable pub entered : List ℕ → ℕ → ℕ → ℕ → List ℕ
-entered T v c x = cond (ltb c 576) (set T (v * 576 + c) x) T
+entered T v c x = cond (ltb v 512) (set T (c * 512 + v) x) T
 
 -- Entry x for colour c at both ends of edge k.
 unfoldable pub enteredAtEnds : List ℕ → List ℕ → ℕ → ℕ → ℕ → List ℕ

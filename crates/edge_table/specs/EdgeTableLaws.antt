@@ -45,22 +45,22 @@ edge-some x n = simp (ne-eqb _ _ n)
 
 -- ---- what is read
 
-pub entry-place : (T : List ℕ) (v c : ℕ) → c < 576 → entryAt T v c ≡ getD T (v * 576 + c) noEdge
+pub entry-place : (T : List ℕ) (v c : ℕ) → v < 512 → entryAt T v c ≡ getD T (c * 512 + v) noEdge
 unfolding entryAt
 entry-place T v c h = simp (lt-ltb _ _ h)
 
-pub no-place : (T : List ℕ) (v c : ℕ) → 576 ≤ c → noEdge ≡ entryAt T v c
+pub no-place : (T : List ℕ) (v c : ℕ) → 512 ≤ v → noEdge ≡ entryAt T v c
 unfolding entryAt
 no-place T v c h = simp (le-ltb _ _ h)
 
-pub past-end : (T : List ℕ) (v c : ℕ) → length T ≤ v * 576 + c → noEdge ≡ entryAt T v c
-past-end T v c h = elim (decLt c 576) [
+pub past-end : (T : List ℕ) (v c : ℕ) → length T ≤ c * 512 + v → noEdge ≡ entryAt T v c
+past-end T v c h = elim (decLt v 512) [
   | yes b ↦ sym (entry-place T v c b ∙ List·getD-eq-default T noEdge h)
   | no b ↦ no-place T v c (omega arith)
 ]
 
-pub entry-read : (T : List ℕ) (v c : ℕ) → c < 576 → v * 576 + c < length T → getD T (v * 576 + c) 0 ≡ entryAt T v c
-entry-read T v c b h = getD-inside T (v * 576 + c) 0 noEdge h ∙ sym (entry-place T v c b)
+pub entry-read : (T : List ℕ) (v c : ℕ) → v < 512 → c * 512 + v < length T → getD T (c * 512 + v) 0 ≡ entryAt T v c
+entry-read T v c b h = getD-inside T (c * 512 + v) 0 noEdge h ∙ sym (entry-place T v c b)
 
 -- The answers, by the entry that was read.
 module _ (T : List ℕ) (v c x : ℕ) (read : x ≡ entryAt T v c) where
@@ -129,39 +129,39 @@ empty-none T v c r e h = let f : 576 - c ≡ zero = omega arith in rw f at e
 
 -- ---- what is entered
 
-pub entered-place : (T : List ℕ) (v c x : ℕ) → c < 576 → set T (v * 576 + c) x ≡ entered T v c x
+pub entered-place : (T : List ℕ) (v c x : ℕ) → v < 512 → set T (c * 512 + v) x ≡ entered T v c x
 unfolding entered
 entered-place T v c x h = simp (lt-ltb _ _ h)
 
-pub entered-no-place : (T : List ℕ) (v c x : ℕ) → 576 ≤ c → T ≡ entered T v c x
+pub entered-no-place : (T : List ℕ) (v c x : ℕ) → 512 ≤ v → T ≡ entered T v c x
 unfolding entered
 entered-no-place T v c x h = simp (le-ltb _ _ h)
 
-pub entered-past-end : (T : List ℕ) (v c x : ℕ) → c < 576 → length T ≤ v * 576 + c → T ≡ entered T v c x
-entered-past-end T v c x b h = sym (set-out T (v * 576 + c) x h) ∙ entered-place T v c x b
+pub entered-past-end : (T : List ℕ) (v c x : ℕ) → v < 512 → length T ≤ c * 512 + v → T ≡ entered T v c x
+entered-past-end T v c x b h = sym (set-out T (c * 512 + v) x h) ∙ entered-place T v c x b
 
 length-entered : (T : List ℕ) (v c x : ℕ) → length (entered T v c x) ≡ length T
-length-entered T v c x = elim (decLt c 576) [
-  | yes b ↦ ap length (sym (entered-place T v c x b)) ∙ length-set T (v * 576 + c) x
+length-entered T v c x = elim (decLt v 512) [
+  | yes b ↦ ap length (sym (entered-place T v c x b)) ∙ length-set T (c * 512 + v) x
   | no b ↦ ap length (sym (entered-no-place T v c x (omega arith)))
 ]
 
-entry-same : (T : List ℕ) (v c x : ℕ) → c < 576 → v * 576 + c < length T → entryAt (entered T v c x) v c ≡ x
-entry-same T v c x b h = rw (← entered-place T v c x b) (entry-place (set T (v * 576 + c) x) v c b ∙ getD-set-same T (v * 576 + c) x noEdge h)
+entry-same : (T : List ℕ) (v c x : ℕ) → v < 512 → c * 512 + v < length T → entryAt (entered T v c x) v c ≡ x
+entry-same T v c x b h = rw (← entered-place T v c x b) (entry-place (set T (c * 512 + v) x) v c b ∙ getD-set-same T (c * 512 + v) x noEdge h)
 
 -- Two places of the table are one only for the same node and the same colour.
-place-injective : (u a v c : ℕ) → a < 576 → c < 576 → u * 576 + a ≡ v * 576 + c → (u ≡ v) × (a ≡ c)
+place-injective : (u a v c : ℕ) → u < 512 → v < 512 → a * 512 + u ≡ c * 512 + v → (u ≡ v) × (a ≡ c)
 place-injective u a v c ha hc e = (omega arith, omega arith)
 
 entry-other : (T : List ℕ) (v c x u a : ℕ) → ((u ≡ v) × (a ≡ c) → ⊥) → entryAt (entered T v c x) u a ≡ entryAt T u a
-entry-other T v c x u a n = go (decLt a 576) (decLt c 576)
+entry-other T v c x u a n = go (decLt u 512) (decLt v 512)
   where
-    go : Dec (a < 576) → Dec (c < 576) → entryAt (entered T v c x) u a ≡ entryAt T u a
+    go : Dec (u < 512) → Dec (v < 512) → entryAt (entered T v c x) u a ≡ entryAt T u a
     go (no ha) hc = sym (no-place (entered T v c x) u a (omega arith)) ∙ no-place T u a (omega arith)
     go (yes ha) (no hc) = ap (λ (l : List ℕ). entryAt l u a) (sym (entered-no-place T v c x (omega arith)))
     go (yes ha) (yes hc) = rw (← entered-place T v c x hc)
-        (entry-place (set T (v * 576 + c) x) u a ha
-        ∙ getD-set-other T (v * 576 + c) (u * 576 + a) x noEdge (λ e. n (place-injective u a v c ha hc e))
+        (entry-place (set T (c * 512 + v) x) u a ha
+        ∙ getD-set-other T (c * 512 + v) (a * 512 + u) x noEdge (λ e. n (place-injective u a v c ha hc e))
         ∙ sym (entry-place T u a ha))
 
 pub length-entered-at-ends : (ends T : List ℕ) (k c x : ℕ) → length (enteredAtEnds ends T k c x) ≡ length T
@@ -169,7 +169,7 @@ unfolding enteredAtEnds
 length-entered-at-ends ends T k c x = length-entered (entered T (firstEnd ends k) c x) (secondEnd ends k) c x ∙ length-entered T (firstEnd ends k) c x
 
 -- At the ends of the edge the entry stands, also at a loop's one end.
-pub entry-at-end : (ends T : List ℕ) (k c x v : ℕ) → c < 576 → firstEnd ends k * 576 + c < length T → secondEnd ends k * 576 + c < length T → At ends k v
+pub entry-at-end : (ends T : List ℕ) (k c x v : ℕ) → (firstEnd ends k < 512) × (secondEnd ends k < 512) → c * 512 + firstEnd ends k < length T → c * 512 + secondEnd ends k < length T → At ends k v
     → entryAt (enteredAtEnds ends T k c x) v c ≡ x
 unfolding enteredAtEnds
 entry-at-end ends T k c x v b f s at = go (dec-eq v (secondEnd ends k)) at
@@ -178,8 +178,8 @@ entry-at-end ends T k c x v b f s at = go (dec-eq v (secondEnd ends k)) at
     T′ = entered T (firstEnd ends k) c x
 
     go : (v ≡ secondEnd ends k) ⊎ (v ≢ secondEnd ends k) → At ends k v → entryAt (entered T′ (secondEnd ends k) c x) v c ≡ x
-    go (inl e) a = rw e (entry-same T′ (secondEnd ends k) c x b (rw (length-entered T (firstEnd ends k) c x) s))
-    go (inr n) (inl e) = entry-other T′ (secondEnd ends k) c x v c (λ p. n (p .0)) ∙ rw (← e) (entry-same T (firstEnd ends k) c x b f)
+    go (inl e) a = rw e (entry-same T′ (secondEnd ends k) c x (b .1) (rw (length-entered T (firstEnd ends k) c x) s))
+    go (inr n) (inl e) = entry-other T′ (secondEnd ends k) c x v c (λ p. n (p .0)) ∙ rw (← e) (entry-same T (firstEnd ends k) c x (b .0) f)
     go (inr n) (inr e) = absurd (n (sym e))
 
 -- Everywhere else the entry is as before.

@@ -18,7 +18,7 @@ use Rattle.vizing.specs.Simple.{Incident}
 use Rattle.edge_table.specs.EdgeTable.{noEdge, entryAt, tableEdge, isEmpty, smallestEmpty, State, state}
 use Rattle.edge_table.specs.EdgeTableLaws.{getD-same, entry-place, no-place, reads-none, FirstEmpty, first-empty}
 
--- Each end has a row in the table, and no edge has the number that marks an empty place.
+-- Each end has a place in every row of the table, and no edge has the number that marks an empty place.
 pub record FitsTable (ends : List ℕ) (m : ℕ) : Type 0 where
   pub edges : m ≤ 4096
   pub nodes : (k : ℕ) → k < m → (firstEnd ends k < 512) × (secondEnd ends k < 512)
@@ -44,8 +44,8 @@ leaves-table ends m l l′ T′ s e w L = (ap (λ (r : State). r .work) e ∙ w,
 -- ---- the start
 
 empty-replicate : (N v c : ℕ) → noEdge ≡ entryAt (replicate N noEdge) v c
-empty-replicate N v c = elim (decLt c 576) [
-  | yes h ↦ sym (entry-place (replicate N noEdge) v c h ∙ getD-same N (v * 576 + c) noEdge)
+empty-replicate N v c = elim (decLt v 512) [
+  | yes h ↦ sym (entry-place (replicate N noEdge) v c h ∙ getD-same N (c * 512 + v) noEdge)
   | no h ↦ no-place (replicate N noEdge) v c (omega arith)
 ]
 
@@ -69,7 +69,7 @@ module _ (ends : List ℕ) (m : ℕ) (l T : List ℕ) (L : TableOf ends m l T) w
   unfolding isEmpty isFree
   says-free v c n = ap isNone (L .says v c n)
 
-  -- `smallest_free`: where each place of the row holds an edge, 576 is free, since no edge has it.
+  -- `smallest_free`: where each row holds an edge at the node, 576 is free, since no edge has it.
   pub says-smallest : (v : ℕ) → smallestEmpty T v ≡ smallestFreeAt l (edgesAt ends m v)
   says-smallest v = sym (smallest-free-found l ks c (omega (arith, F .bound)) none-has used)
     where

@@ -13,8 +13,8 @@ pub use update::color_of;
 pub use update::repaint;
 pub use update::uncolor;
 
-// The table's sizes: a row for each node, in it a place for each colour. A simple graph of so many nodes has no degree of so many
-// colours, so one is always free.
+// The table's sizes: a row for each colour, in it a place for each node, so that the few colours of a sparse graph stand close together.
+// A simple graph of so many nodes has no degree of so many colours, so one is always free.
 pub struct EdgeTable;
 
 impl EdgeTable {

@@ -8,15 +8,15 @@ use graph::NodeIndex;
 ghost use mathlib.Core.Path.{_≡_};
 ghost use Rattle.edge_table.specs.EdgeTable.{optionOf, entryAt, tableEdge, isEmpty, smallestEmpty};
 
-// A colour without a place must not be read from the next row.
+// A node without a place must not be read from the next row.
 fn entry_at(table: &[u16], node: NodeIndex, color: Color) -> Entry
     ensures { λ r. ⌜ r .0 ≡ entryAt (now (table .entry)) (node .0) (color .0) ⌝ }
 {
-    let c = color.0 as usize;
-    if EdgeTable::COLORS <= c {
+    let v = node.0 as usize;
+    if EdgeTable::NODES <= v {
         return Entry(Entry::NONE);
     }
-    let place = node.0 as usize * EdgeTable::COLORS + c;
+    let place = color.0 as usize * EdgeTable::NODES + v;
     if table.len() <= place {
         return Entry(Entry::NONE);
     }

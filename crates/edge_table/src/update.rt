@@ -10,15 +10,15 @@ ghost use lib.ListN.{set};
 ghost use Rattle.graph.specs.Colored.{colorOf};
 ghost use Rattle.edge_table.specs.EdgeTable.{entered, enteredAtEnds, state, uncolored, colored, allUncolored, allColored, repainted};
 
-// A colour without a place must not be entered in the next row.
+// A node without a place must not be entered in the next row.
 fn enter(table: &mut [u16], node: NodeIndex, color: Color, entry: Entry)
     ensures { λ _. ⌜ now (table .exit) ≡ entered (now (table .entry)) (node .0) (color .0) (entry .0) ⌝ }
 {
-    let c = color.0 as usize;
-    if EdgeTable::COLORS <= c {
+    let v = node.0 as usize;
+    if EdgeTable::NODES <= v {
         return;
     }
-    let place = node.0 as usize * EdgeTable::COLORS + c;
+    let place = color.0 as usize * EdgeTable::NODES + v;
     if table.len() <= place {
         return;
     }
