@@ -1,16 +1,17 @@
 -- Whether a colour stands at a node: whether an edge there leads to an item that has it.
-use Prim.Native.Nat.{ℕ, _+_, _≤_, _<_}
+use Prim.Native.Nat.{ℕ, zero, suc, _-_, _≤_, _<_}
 use mathlib.Core.Path.{_≡_, refl, sym, ap, _∙_}
 use mathlib.Core.Logic.{inl, inr}
 use mathlib.Core.List.{List, [], _∷_}
 use mathlib.Core.Bool.{Bool, true, false, _&&_, _||_, false≢true}
-use native.Mathlib.Numerals.{add-one}
+use native.Mathlib.Nat.{le-refl}
+use native.Mathlib.Omega.{arith}
 use lib.ListN.{length, getD, drop, drop-of-length-le}
 use lib.Seq.{drop-cons}
 use lib.Dec.{eqb, ltb}
 use borrow.Author.Tests.{lt-ltb, le-ltb, eq-eqb, ne-eqb, ltb-true, eqb-true}
 use Rattle.lists.specs.Tests.{and-true, and-false, or-true, true-or}
-use Rattle.lists.specs.Member.{Mem}
+use Rattle.lists.specs.Member.{Mem, mem-getD}
 use Rattle.graph.specs.Colored.{colorOf}
 use Rattle.graph.specs.ColoredLaws.{color-read}
 use Rattle.items.specs.declared.Kind.{Kind}
@@ -25,38 +26,6 @@ module _ (kind : Kind) (ends colors : List ℕ) (c w : ℕ) where
   unfoldable pub standsAt : List ℕ → Bool
   standsAt [] = false
   standsAt (k ∷ ks) = hasColor colors c (acrossOf kind ends k w) || standsAt ks
-
-  -- ---- one edge after the other
-
-  module _ (ks : List ℕ) where
-    pub stands-begin : standsAt (drop 0 ks) ≡ standsAt ks
-    stands-begin = refl
-
-    module _ (i : ℕ) (p : standsAt (drop i ks) ≡ standsAt ks) where
-      module _ (h : i < length ks) (v : ℕ) (e : v ≡ acrossOf kind ends (getD ks i 0) w) where
-        -- The edges left are the next one and those after it.
-        next : standsAt ks ≡ hasColor colors c v || standsAt (drop (i + 1) ks)
-        unfolding standsAt
-        next = sym p ∙ rw (drop-cons ks i 0 h, e, add-one i)
-
-        past : hasColor colors c v ≡ false → standsAt (drop (i + 1) ks) ≡ standsAt ks
-        past f = sym (next ∙ ap (λ (b : Bool). b || standsAt (drop (i + 1) ks)) f)
-
-        pub stands-outside : length colors ≤ v → standsAt (drop (i + 1) ks) ≡ standsAt ks
-        unfolding hasColor
-        stands-outside o = past (rw (le-ltb v (length colors) o))
-
-        pub stands-other : (getD colors v 0 ≡ c → ⊥) → standsAt (drop (i + 1) ks) ≡ standsAt ks
-        unfolding hasColor
-        stands-other n = past (rw (ne-eqb (getD colors v 0) c n) (and-false (ltb v (length colors)) false refl))
-
-        pub stands-here : v < length colors → getD colors v 0 ≡ c → (edges : List ℕ) → ks ≡ edges → true ≡ standsAt edges
-        unfolding hasColor
-        stands-here b q edges x = sym (ap standsAt (sym x) ∙ (next ∙ rw (lt-ltb v (length colors) b, eq-eqb (getD colors v 0) c q)))
-
-      pub stands-nowhere : length ks ≤ i → (edges : List ℕ) → ks ≡ edges → false ≡ standsAt edges
-      unfolding standsAt
-      stands-nowhere h edges x = sym (ap standsAt (sym x) ∙ (sym p ∙ ap standsAt (drop-of-length-le ks h)))
 
   -- ---- which item it is
 
@@ -79,3 +48,36 @@ module _ (kind : Kind) (ends colors : List ℕ) (c w : ℕ) where
       let v = acrossOf kind ends k w in
       rw (← p, lt-ltb v (length colors) h, eq-eqb (getD colors v 0) c (color-read colors v 0 h ∙ e))
   item-stands (j ∷ ks) k (inr p) h e = true-or (hasColor colors c (acrossOf kind ends j w)) (standsAt ks) (item-stands ks k p h e)
+
+  -- ---- one edge after the other, from the last to the first
+
+  module _ (ks : List ℕ) where
+    pub stands-none : standsAt (drop (length ks) ks) ≡ false
+    unfolding standsAt
+    stands-none = ap standsAt (drop-of-length-le ks (le-refl (length ks)))
+
+    pub stands-nowhere : (i : ℕ) → standsAt (drop i ks) ≡ false → i ≤ 0 → (edges : List ℕ) → ks ≡ edges → false ≡ standsAt edges
+    stands-nowhere zero p h edges x = sym (ap standsAt (sym x) ∙ p)
+    stands-nowhere (suc i) p h edges x = let z : ⊥ = omega arith in absurd z
+
+    module _ (i : ℕ) (z : 0 < i) (h : i ≤ length ks) (v : ℕ) (e : v ≡ acrossOf kind ends (getD ks (i - 1) 0) w) where
+      pub stands-here : v < length colors → getD colors v 0 ≡ c → (edges : List ℕ) → ks ≡ edges → true ≡ standsAt edges
+      stands-here b q edges x =
+          let here : v < length colors → colorOf colors v ≡ c → standsAt ks ≡ true = rw e (item-stands ks (getD ks (i - 1) 0) (mem-getD ks (i - 1) 0 (omega arith))) in
+          sym (ap standsAt (sym x) ∙ here b (sym (color-read colors v 0 b) ∙ q))
+
+      -- One edge more is passed.
+      past : standsAt (drop i ks) ≡ false → hasColor colors c v ≡ false → standsAt (drop (i - 1) ks) ≡ false
+      unfolding standsAt
+      past p f =
+          let next : suc (i - 1) ≡ i = omega arith in
+          let passed : drop (i - 1) ks ≡ getD ks (i - 1) 0 ∷ drop i ks = drop-cons ks (i - 1) 0 (omega arith) ∙ ap (λ (j : ℕ). getD ks (i - 1) 0 ∷ drop j ks) next in
+          ap standsAt passed ∙ (ap (λ (b : Bool). b || standsAt (drop i ks)) (ap (hasColor colors c) (sym e) ∙ f) ∙ p)
+
+      pub stands-outside : standsAt (drop i ks) ≡ false → length colors ≤ v → standsAt (drop (i - 1) ks) ≡ false
+      unfolding hasColor
+      stands-outside p o = past p (rw (le-ltb v (length colors) o))
+
+      pub stands-other : standsAt (drop i ks) ≡ false → (getD colors v 0 ≡ c → ⊥) → standsAt (drop (i - 1) ks) ≡ false
+      unfolding hasColor
+      stands-other p n = past p (rw (ne-eqb (getD colors v 0) c n) (and-false (ltb v (length colors)) false refl))

@@ -16,7 +16,8 @@ use graph::EdgeIndex;
 use graph::NodeIndex;
 use graph::edges_at;
 
-// Whether an edge at the node leads to an item that has the colour.
+// Whether an edge at the node leads to an item that has the colour. In each of its two groups a node's edges stand newest first, and
+// among equals the lowest item is coloured first: so the colour is mostly found sooner from the back.
 fn stands_at(
     kind: Kind,
     ends: &[u16],
@@ -29,10 +30,10 @@ fn stands_at(
     ensures { λ r. ⌜ r ≡ standsAt kind (now (ends .entry)) (now (colors .entry)) (color .0) (node .0) (stretch (now (starts .entry)) (now (entries .entry)) (node .0)) ⌝ }
 {
     let edges = edges_at(starts, entries, node);
-    let mut i = 0;
-    while i < edges.len() {
+    let mut i = edges.len();
+    while 0 < i {
+        i -= 1;
         let v = across(kind, ends, EdgeIndex(edges[i]), node).0 as usize;
-        i += 1;
         if v < colors.len() {
             if colors[v] == color.0 {
                 return true;
