@@ -4,3 +4,4 @@ pub mod Standing
 pub mod Around
 pub mod Stored
 pub mod Marks
+pub mod Used

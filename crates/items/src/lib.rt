@@ -16,7 +16,7 @@ use greedy::smallest_edge_color;
 
 mod marks;
 
-pub use marks::mark_known;
+pub use marks::mark_used;
 
 // Which items are coloured.
 pub enum Kind {

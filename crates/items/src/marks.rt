@@ -1,6 +1,8 @@
 // The items to which a colour is not new: it stands at one of their nodes. Of the items only those around the one that takes the
 // colour are marked, and each node is asked once.
 ghost use mathlib.Core.Path.{_≡_};
+ghost use mathlib.Core.Bool.{true, false};
+ghost use Rattle.lists.specs.Member.{elem};
 ghost use Rattle.graph.specs.Stretch.{stretch};
 ghost use Rattle.items.specs.Standing.{standsAt};
 ghost use Rattle.items.specs.Around.{acrossAll, around};
@@ -136,7 +138,7 @@ fn mark_along(
 }
 
 // The items around the item get their marks, each where it has a place: 1 to those without a colour that have this one on a neighbour.
-pub fn mark_known(
+fn mark_known(
     kind: Kind,
     ends: &[u16],
     starts: &[u16],
@@ -180,4 +182,39 @@ pub fn mark_known(
         marks,
         second,
     );
+}
+
+// Whether an item has the colour.
+fn has_color(colors: &[u16], color: Color) -> bool
+    ensures { λ r. ⌜ r ≡ elem (color .0) (now (colors .entry)) ⌝ }
+{
+    let mut v = 0;
+    while v < colors.len() {
+        if colors[v] == color.0 {
+            return true;
+        }
+        v += 1;
+    }
+    false
+}
+
+// The same if some item has the colour. One that none has is new to all, so no mark is set.
+pub fn mark_used(
+    kind: Kind,
+    ends: &[u16],
+    starts: &[u16],
+    entries: &[u16],
+    colors: &[u16],
+    color: Color,
+    marks: &mut [u8],
+    item: Item,
+)
+    ensures { λ _. ⌜ (elem (color .0) (now (colors .entry)) ≡ true
+        → now (marks .exit) ≡ stored (markOf kind (now (ends .entry)) (now (starts .entry)) (now (entries .entry)) (now (colors .entry)) (color .0)) (around kind (now (ends .entry)) (now (starts .entry)) (now (entries .entry)) (item .0)) (now (marks .entry))) ⌝ }
+    ensures { λ _. ⌜ (elem (color .0) (now (colors .entry)) ≡ false → now (marks .exit) ≡ now (marks .entry)) ⌝ }
+{
+    if has_color(colors, color) {
+        mark_known(kind, ends, starts, entries, colors, color, marks, item);
+        return;
+    }
 }

@@ -3,16 +3,17 @@ use Prim.Native.Nat.{ℕ, _≤_, _<_}
 use mathlib.Core.Path.{_≡_, refl, sym, ap, subst, _∙_}
 use mathlib.Core.Logic.{inl, inr, _≢_}
 use mathlib.Core.List.{List}
-use mathlib.Core.Bool.{Bool, true, _||_, cond}
+use mathlib.Core.Bool.{Bool, true, false, _||_, cond}
 use native.Mathlib.Omega.{arith}
+use native.Mathlib.Decide.{decLt}
 use lib.ListN.{length, getD}
 use Rattle.lists.specs.Tests.{by-test, true-or}
-use Rattle.lists.specs.Member.{Mem}
+use Rattle.lists.specs.Member.{Mem, elem, elem-false, mem-getD}
 use Rattle.graph.specs.Edges.{edgeCount}
 use Rattle.graph.specs.EdgeLaws.{at-edge, edge-at}
 use Rattle.graph.specs.Stretch.{stretch}
 use Rattle.graph.specs.Colored.{noColor, colorOf}
-use Rattle.graph.specs.ColoredLaws.{color-read}
+use Rattle.graph.specs.ColoredLaws.{color-read, color-outside}
 use Rattle.items.specs.declared.Kind.{Kind}
 use Rattle.items.specs.Items.{firstNode, secondNode, acrossOf, neighborsOf, Sized, Tabled, items-few, across-inside, first-inside, second-inside, NodeOf, neighbor-leading, leading-neighbor}
 use Rattle.items.specs.Standing.{stands-item, item-stands}
@@ -89,3 +90,17 @@ module _ (kind : Kind) (ends starts entries colors : List ℕ) (c : ℕ) (tabled
         old = λ u i h bare n. let r = mark-stands u h bare (rw (mark-here u i h) at n) in stands-among u (r .0) h bare (r .1) (r .2);
         marked = λ u i h bare p. let r = among-stands u h p in rw (mark-here u i h) (stands-mark u h bare (r .0) (r .1) (r .2));
       }
+
+  -- The marks where those are set only if some item has the colour: none has a colour that no item has.
+  pub used-known : (us marks₀ marks : List ℕ) → ((u : ℕ) → getD marks₀ u 0 ≡ 0) → 4096 ≤ length marks₀
+      → (elem c colors ≡ true → marks ≡ stored (markOf kind ends starts entries colors c) us marks₀) × (elem c colors ≡ false → marks ≡ marks₀) → Known us (neighborsOf kind ends) colors c marks
+  used-known us marks₀ marks zeros room set = by-test (elem c colors) (λ t. known us marks₀ marks room (set .0 t)) (λ t. record {
+    old = λ u i h bare n. absurd (n (ap (λ (l : List ℕ). getD l u 0) (set .1 t) ∙ zeros u));
+    marked = λ u i h bare p. let r = among-color colors (neighborsOf kind ends u) c p in absurd (elem-false c colors t (color-member (r .0) (r .2)));
+  })
+    where
+      color-member : (x : ℕ) → colorOf colors x ≡ c → Mem c colors
+      color-member x e = elim (decLt x (length colors)) [
+        | yes b ↦ subst (λ (y : ℕ). Mem y colors) (color-read colors x 0 b ∙ e) (mem-getD colors x 0 b)
+        | no b ↦ absurd (real (sym e ∙ color-outside colors x (omega arith)))
+      ]

@@ -22,7 +22,7 @@ pub record NotedTimes (times saturation₀ waiting₀ mark₀ saturation waiting
   pub old : mark₀ ≢ 0 → (saturation ≡ saturation₀) × (mark ≢ 0)
   pub new : mark₀ ≡ 0 → times ≢ 0 → (saturation ≡ suc saturation₀) × (mark ≢ 0)
 
-none-noted : (s w m : ℕ) → NotedTimes 0 s w m s w m
+pub none-noted : (s w m : ℕ) → NotedTimes 0 s w m s w m
 none-noted s w m = record { waits = omega arith; not-yet = λ z. (refl, refl); old = λ z. (refl, z); new = λ z y. absurd (y refl) }
 
 more-noted : (a b s₀ w₀ m₀ s w m s′ w′ m′ : ℕ) → NotedTimes a s₀ w₀ m₀ s w m → NotedTimes b s w m s′ w′ m′ → NotedTimes (a + b) s₀ w₀ m₀ s′ w′ m′

@@ -68,7 +68,7 @@ started-counted nb n colors saturations waiting size p zeros =
       waits = λ v h e. sym (waiting-among nb colors v ∙ (all-uncolored colors (nb v) bare ∙ sym (p .waits v h)));
     }
 
-zero-at : (n v : ℕ) → _≡_ {A = ℕ} (getD (replicate n 0) v 0) 0
+pub zero-at : (n v : ℕ) → _≡_ {A = ℕ} (getD (replicate n 0) v 0) 0
 zero-at n v = elim (decLt v n) [ yes h ↦ getD-replicate n v 0 0 h | no h ↦ List·getD-eq-default (replicate n 0) 0 (rw (length-replicate {A = ℕ} n 0) (omega arith)) ]
 
 -- The counts are ready for the presets.

@@ -1,23 +1,26 @@
 -- An item takes a colour: room to note it, and the counts afterwards.
 use Prim.Native.Nat.{ℕ, suc, _+_, _≤_, _<_}
-use mathlib.Core.Path.{_≡_, refl, sym, ap, _∙_}
+use mathlib.Core.Path.{_≡_, refl, sym, ap, subst, _∙_}
 use mathlib.Core.Logic.{inl, inr, _≢_}
-use mathlib.Core.List.{List}
+use mathlib.Core.List.{List, _∷_}
 use native.Mathlib.Omega.{arith}
-use lib.ListN.{length, getD, set, length-set}
+use lib.ListN.{length, getD, set, replicate, length-set, length-replicate}
 use lib.Seq.{set-getD, getD-set-same, getD-set-other}
-use Rattle.lists.specs.Tests.{dec-eq}
-use Rattle.lists.specs.Different.{different, count}
-use Rattle.graph.specs.Colored.{noColor, colorOf}
-use Rattle.graph.specs.ColoredLaws.{color-read, color-set-same, color-set-other}
+use Rattle.lists.specs.Tests.{by-test, dec-eq}
+use Rattle.lists.specs.Member.{Mem}
+use Rattle.lists.specs.Different.{different, count, count-none}
+use Rattle.graph.specs.Colored.{noColor, colorOf, isColored}
+use Rattle.graph.specs.ColoredLaws.{color-read, color-set-same, color-set-other, uncolored-false}
 use Rattle.greedy.specs.Greedy.{Neighborhood}
 use Rattle.greedy.specs.Saturation.{saturation, uncoloredNeighbors, uncoloredAmong}
 use Rattle.items.specs.declared.Kind.{Kind}
 use Rattle.items.specs.Items.{neighborsOf, Tabled, neighborhood}
 use Rattle.saturation.specs.Counts.{Counted, Cleared, colorsAmong, count-mem, mem-count, different-few, uncolored-falls, different-stays, different-grows}
-use Rattle.saturation.specs.Notes.{Noted, Room}
-use Rattle.saturation.specs.Known.{Known}
+use Rattle.saturation.specs.Notes.{Noted, Room, none-noted}
+use Rattle.saturation.specs.Known.{Known, known}
 use Rattle.items.specs.Around.{around}
+use Rattle.items.specs.Stored.{stored}
+use Rattle.items.specs.Marks.{markOf}
 use Rattle.saturation.specs.Around.{around-times}
 
 pub saturation-among : (nb : ℕ → List ℕ) (colors : List ℕ) (v : ℕ) → saturation nb colors v ≡ different (colorsAmong colors (nb v))
@@ -27,6 +30,14 @@ saturation-among nb colors v = refl
 pub waiting-among : (nb : ℕ → List ℕ) (colors : List ℕ) (v : ℕ) → uncoloredNeighbors nb colors v ≡ uncoloredAmong colors (nb v)
 unfolding uncoloredNeighbors
 waiting-among nb colors v = refl
+
+-- Where none of these items is without a colour, each has one.
+uncolored-none : (colors us : List ℕ) → uncoloredAmong colors us ≡ 0 → (u : ℕ) → Mem u us → colorOf colors u ≡ noColor → ⊥
+unfolding uncoloredAmong
+uncolored-none colors (x ∷ us) z u (inl p) e = let w = rw (uncolored-false colors x (ap (colorOf colors) (sym p) ∙ e)) at z in omega arith
+uncolored-none colors (x ∷ us) z u (inr p) e = by-test (isColored colors x)
+    (λ t. uncolored-none colors us (rw t at z) u p e)
+    (λ t. let w = rw t at z in omega arith)
 
 -- The items us, with v perhaps more or less often, are the neighbours of v.
 module _ (nb : ℕ → List ℕ) (n : ℕ) (hood : Neighborhood nb n) (colors s₀ w₀ us : List ℕ) (v c : ℕ) (size : length colors ≡ n) (counted : Counted nb n colors s₀ w₀)
@@ -55,6 +66,17 @@ module _ (nb : ℕ → List ℕ) (n : ℕ) (hood : Neighborhood nb n) (colors s�
           λ z. omega (arith, counted .differs u b (o .1) ∙ saturation-among nb colors u, different-few colors (nb u), hood .few u b),
         );
   }
+
+  -- Where v waits for no neighbour, none without a colour is left to note it.
+  idle-noted : getD w₀ v 0 ≡ 0 → (m : List ℕ) → Noted (set colors v c) us s₀ w₀ m s₀ w₀ m
+  idle-noted z m =
+      let none = sym (counted .waits v inside bare ∙ waiting-among nb colors v) ∙ z in
+      record {
+        at = λ u h e.
+            let o = still-bare u e in
+            rw (around u (o .0) ∙ count-none u (nb v) (λ p. uncolored-none colors (nb v) none u p (o .1))) (none-noted _ _ _);
+        kept = λ u n. (refl, refl);
+      }
 
   module _ (m₀ s w m : List ℕ) (known : Known us nb colors c m₀) (noted : Noted (set colors v c) us s₀ w₀ m₀ s w m) where
     taken-counted : Counted nb n (set colors v c) s w
@@ -146,3 +168,11 @@ module _ (kind : Kind) (ends starts entries colors s₀ w₀ : List ℕ) (v c : 
         saturations-room = omega (arith, ready .saturations-room, length-set colors v c, length-set s v 0);
         waiting-room = omega (arith, ready .waiting-room, length-set colors v c, length-set w v 0);
       }
+
+  -- The same where v waits for no neighbour: only its own counts are cleared.
+  pub take-idle : getD w₀ v 0 ≡ 0 → Ready kind ends starts entries (set colors v c) (set s₀ v 0) w₀
+  take-idle z =
+      let m = stored (markOf kind ends starts entries colors c) us (replicate 4096 0) in
+      let noted = idle-noted (neighborsOf kind ends) (length colors) hood colors s₀ w₀ us v c refl (ready .counted) inside bare real (λ u d. around-times kind ends starts entries (length colors) (ready .tabled) v u inside d) z m in
+      let marks = known kind ends starts entries colors c (ready .tabled) real us (replicate 4096 0) m (omega (arith, length-replicate {A = ℕ} 4096 0)) refl in
+      subst (Ready kind ends starts entries (set colors v c) (set s₀ v 0)) (ap (set w₀ v) (sym z) ∙ set-getD w₀ v 0) (take-ready m s₀ w₀ m marks noted refl refl)

@@ -18,7 +18,7 @@ use items::Item;
 use items::Kind;
 use items::across;
 use items::first_node;
-use items::mark_known;
+use items::mark_used;
 use items::neighbor_count;
 use items::second_node;
 
@@ -132,7 +132,44 @@ fn note_neighbors(
     );
 }
 
-// An item without a colour takes one, or stays without. With a colour it has no counts, so that it goes before no other.
+// An item without a colour takes this one, and its neighbours note it. With a colour it has no counts, so that it goes before no other.
+fn note_color(
+    kind: Kind,
+    ends: &[u16],
+    starts: &[u16],
+    entries: &[u16],
+    colors: &mut [u16],
+    saturations: &mut [u16],
+    waiting: &mut [u16],
+    item: Item,
+    color: Color,
+)
+    requires { ⌜ Ready kind (now ends) (now starts) (now entries) (now colors) (now saturations) (now waiting) ⌝ }
+    requires { ⌜ (item .0 < length (now colors)) × (colorOf (now colors) (item .0) ≡ noColor) ⌝ }
+    requires { ⌜ (color .0 ≡ noColor → ⊥) ⌝ }
+    ensures { λ _. ⌜ now (colors .exit) ≡ set (now (colors .entry)) (item .0) (color .0) ⌝ }
+    ensures { λ _. ⌜ Ready kind (now (ends .entry)) (now (starts .entry)) (now (entries .entry)) (now (colors .exit)) (now (saturations .exit)) (now (waiting .exit)) ⌝ }
+{
+    let mut marks = [0u8; 4096];
+    mark_used(kind, ends, starts, entries, colors, color, &mut marks, item);
+    let v = item.0 as usize;
+    colors[v] = color.0;
+    note_neighbors(
+        kind,
+        ends,
+        starts,
+        entries,
+        colors,
+        saturations,
+        waiting,
+        &mut marks,
+        item,
+    );
+    saturations[v] = 0;
+    waiting[v] = 0;
+}
+
+// An item without a colour takes one, or stays without. Where no neighbour waits for a colour there is none to note it.
 pub(crate) fn take_color(
     kind: Kind,
     ends: &[u16],
@@ -152,11 +189,13 @@ pub(crate) fn take_color(
     if color.0 == Color::NONE {
         return;
     }
-    let mut marks = [0u8; 4096];
-    mark_known(kind, ends, starts, entries, colors, color, &mut marks, item);
     let v = item.0 as usize;
-    colors[v] = color.0;
-    note_neighbors(
+    if waiting[v] == 0 {
+        colors[v] = color.0;
+        saturations[v] = 0;
+        return;
+    }
+    note_color(
         kind,
         ends,
         starts,
@@ -164,9 +203,7 @@ pub(crate) fn take_color(
         colors,
         saturations,
         waiting,
-        &mut marks,
         item,
+        color,
     );
-    saturations[v] = 0;
-    waiting[v] = 0;
 }
