@@ -55,6 +55,18 @@ module _ (taken : ℕ → Type 0) (counts : List ℕ) where
     pub greatest-all : (k : ℕ) → n ≤ k → k ≤ n → Greatest taken counts k best
     greatest-all k h l = let e : n ≡ k = omega arith in subst (λ (x : ℕ). Greatest taken counts x best) e g
 
+-- The items with this saturation, as the code counts: 0 of any other.
+module _ (saturations waiting : List ℕ) (saturation v best count : ℕ) (g : Greatest (With saturations saturation) waiting v best)
+    (told : (getD saturations v 0 ≡ saturation → count ≡ getD waiting v 0) × ((getD saturations v 0 ≡ saturation → ⊥) → count ≡ 0)) where
+  pub among-more : best < count → Greatest (With saturations saturation) waiting (v + 1) count
+  among-more h = elim (dec-eq (getD saturations v 0) saturation) [
+    | inl e ↦ rw (told .0 e) (greatest-more (With saturations saturation) waiting v best g e (omega (arith, told .0 e)))
+    | inr n ↦ absurd (omega (arith, told .1 n))
+  ]
+
+  pub among-same : count ≤ best → Greatest (With saturations saturation) waiting (v + 1) best
+  among-same h = greatest-same (With saturations saturation) waiting v best g (λ e. omega (arith, told .0 e))
+
 -- ---- who leads
 
 module _ (saturations waiting : List ℕ) where

@@ -39,6 +39,13 @@ fn greatest(counts: &[u16], n: usize) -> u16
     best
 }
 
+// The count of an item that has this saturation, 0 of any other.
+fn count_with(own: u16, saturation: u16, count: u16) -> u16
+    ensures { λ r. ⌜ (own ≡ saturation → r ≡ count) × ((own ≡ saturation → ⊥) → r ≡ 0) ⌝ }
+{
+    if own == saturation { count } else { 0 }
+}
+
 // The greatest waiting count of those of the first `n` items that have this saturation.
 fn greatest_among(saturations: &[u16], saturation: u16, waiting: &[u16], n: usize) -> u16
     requires { ⌜ (n ≤ length (now saturations)) × (n ≤ length (now waiting)) ⌝ }
@@ -47,13 +54,10 @@ fn greatest_among(saturations: &[u16], saturation: u16, waiting: &[u16], n: usiz
     let mut best = 0;
     let mut v = 0;
     while v < n {
-        let own = saturations[v];
-        let count = waiting[v];
+        let count = count_with(saturations[v], saturation, waiting[v]);
         v += 1;
-        if own == saturation {
-            if best < count {
-                best = count;
-            }
+        if best < count {
+            best = count;
         }
     }
     best

@@ -2,7 +2,7 @@
 use Prim.Native.Nat.{_≤_, _-_}
 use native.Mathlib.Omega.{arith}
 use borrow.Author.Needs.{needs}
-use Rattle.saturation.specs.Choice.{Greatest, With, greatest-none, greatest-same, greatest-more, greatest-all}
+use Rattle.saturation.specs.Choice.{Greatest, With, greatest-none, greatest-all, among-more, among-same}
 use Rattle.saturation.proofs.turns.greatest_among.Statement.{statement}
 use Rattle.saturation.proofs.turns.greatest_among.Tie as tie
 
@@ -12,17 +12,11 @@ Inv-loop saturations saturation waiting n best₀ v₀ best v = (v ≤ n) × Gre
 abbrev μ-loop : tie.MeasureT-loop
 μ-loop saturations saturation waiting n best₀ v₀ best v = n - v
 
-loop-holds : tie.Need-loop-holds Inv-loop μ-loop
-loop-holds c = (omega arith, greatest-none _ _)
-
 loop-again : tie.Need-loop-again Inv-loop μ-loop
-loop-again c = (omega (arith, c .before .before .before .before .loop-test .taken), greatest-more _ _ _ _ (c .before .before .before .before .before .loop .inv .1) (c .before .if1 .taken) (c .if2 .taken))
+loop-again c = (omega (arith, c .before .before .before .before .loop-test .taken), among-more (c .before .before .before .before .before .before .before .before .args .saturations .now) (c .before .before .before .before .before .before .before .before .args .waiting .now) (c .before .before .before .before .before .before .before .before .args .saturation) (c .before .before .before .before .before .loop .v) (c .before .before .before .before .before .loop .best) (c .before .count-with .result) (c .before .before .before .before .before .loop .inv .1) (c .before .count-with .ensures) (c .if1 .taken))
 
 loop-again-2 : tie.Need-loop-again-2 Inv-loop μ-loop
-loop-again-2 c = (omega (arith, c .before .before .before .before .loop-test .taken), greatest-same _ _ _ _ (c .before .before .before .before .before .loop .inv .1) (λ _. c .if2 .left))
-
-loop-again-3 : tie.Need-loop-again-3 Inv-loop μ-loop
-loop-again-3 c = (omega (arith, c .before .before .before .loop-test .taken), greatest-same _ _ _ _ (c .before .before .before .before .loop .inv .1) (λ e. absurd (c .if1 .left e)))
+loop-again-2 c = (omega (arith, c .before .before .before .before .loop-test .taken), among-same (c .before .before .before .before .before .before .before .before .args .saturations .now) (c .before .before .before .before .before .before .before .before .args .waiting .now) (c .before .before .before .before .before .before .before .before .args .saturation) (c .before .before .before .before .before .loop .v) (c .before .before .before .before .before .loop .best) (c .before .count-with .result) (c .before .before .before .before .before .loop .inv .1) (c .before .count-with .ensures) (c .if1 .left))
 
 returns : tie.Need-returns Inv-loop μ-loop
 returns c = greatest-all _ _ _ _ (c .before .loop .inv .1) _ (c .before .loop .inv .0) (c .loop-test .left)
@@ -33,11 +27,9 @@ greatest-among-spec =
     (tie.spec
     Inv-loop
     μ-loop
-    loop-holds
-    (λ c. search needs) (λ c. search needs) (λ c. search needs) (λ c. search needs) (λ c. search needs) (λ c. search needs)
+    (λ c. (omega arith, greatest-none _ _))
+    (λ c. search needs) (λ c. search needs) (λ c. search needs) (λ c. search needs) (λ c κs. tt) (λ c. search needs) (λ c. search needs)
     loop-again
     (λ c. search needs)
     loop-again-2
-    (λ c. search needs)
-    loop-again-3
     returns)
