@@ -96,35 +96,27 @@ fn exchange_path(
     exchange_few(n, ends, work, table, node, c, d)
 }
 
-// Each of the fan's places takes the colour of the next, the last takes d.
-fn rotate_places(ends: &[u16], work: &mut [u16], table: &mut [u16], fan: &[u16], d: Color)
+// Each of the fan's places takes the colour of the next, the last takes d. The colours are written to the lent slice first.
+fn rotate_places(
+    ends: &[u16],
+    work: &mut [u16],
+    table: &mut [u16],
+    fan: &[u16],
+    d: Color,
+    colors: &mut [u16],
+)
     requires { ⌜ TableOf (now ends) (edgeCount (now ends)) (now work) (now table) ⌝ }
     requires { ⌜ Repaintable (now ends) (edgeCount (now ends)) (now work) (now fan) (rotatedColors (now work) (drop 1 (now fan)) (d .0)) ⌝ }
-    requires { ⌜ (1 ≤ length (now fan)) × (length (now fan) ≤ 512) ⌝ }
+    requires { ⌜ (1 ≤ length (now fan)) × (length (now fan) ≤ length (now colors)) ⌝ }
     ensures { λ _. ⌜ (now (work .exit) ≡ store (now (work .entry)) (now (fan .entry)) (rotatedColors (now (work .entry)) (drop 1 (now (fan .entry))) (d .0)))
         × TableOf (now (ends .entry)) (edgeCount (now (ends .entry))) (now (work .exit)) (now (table .exit)) ⌝ }
 {
-    let mut colors = [0u16; 512];
     let len = fan.len();
-    shift_colors(work, fan, d, &mut colors);
+    shift_colors(work, fan, d, colors);
     repaint(ends, work, table, fan, &colors[..len]);
 }
 
-// The same for a fan of at most 32 places, by a short array, which is cleared sooner.
-fn rotate_few(ends: &[u16], work: &mut [u16], table: &mut [u16], fan: &[u16], d: Color)
-    requires { ⌜ TableOf (now ends) (edgeCount (now ends)) (now work) (now table) ⌝ }
-    requires { ⌜ Repaintable (now ends) (edgeCount (now ends)) (now work) (now fan) (rotatedColors (now work) (drop 1 (now fan)) (d .0)) ⌝ }
-    requires { ⌜ (1 ≤ length (now fan)) × (length (now fan) ≤ 32) ⌝ }
-    ensures { λ _. ⌜ (now (work .exit) ≡ store (now (work .entry)) (now (fan .entry)) (rotatedColors (now (work .entry)) (drop 1 (now (fan .entry))) (d .0)))
-        × TableOf (now (ends .entry)) (edgeCount (now (ends .entry))) (now (work .exit)) (now (table .exit)) ⌝ }
-{
-    let mut colors = [0u16; 32];
-    let len = fan.len();
-    shift_colors(work, fan, d, &mut colors);
-    repaint(ends, work, table, fan, &colors[..len]);
-}
-
-// The same. Where the fan has one place, only that takes d, and no array has to be cleared for it.
+// The same. Where the fan has one place, only that takes d, and no array has to be cleared for it; up to 32 places take a short one.
 fn rotate_fan(ends: &[u16], work: &mut [u16], table: &mut [u16], fan: &[u16], d: Color)
     requires { ⌜ TableOf (now ends) (edgeCount (now ends)) (now work) (now table) ⌝ }
     requires { ⌜ Repaintable (now ends) (edgeCount (now ends)) (now work) (now fan) (rotatedColors (now work) (drop 1 (now fan)) (d .0)) ⌝ }
@@ -138,10 +130,12 @@ fn rotate_fan(ends: &[u16], work: &mut [u16], table: &mut [u16], fan: &[u16], d:
         return;
     }
     if fan.len() <= 32 {
-        rotate_few(ends, work, table, fan, d);
+        let mut colors = [0u16; 32];
+        rotate_places(ends, work, table, fan, d, &mut colors);
         return;
     }
-    rotate_places(ends, work, table, fan, d);
+    let mut colors = [0u16; 512];
+    rotate_places(ends, work, table, fan, d, &mut colors);
 }
 
 // Steps 2 to 5 for an edge whose fan is given. The answer is the one new colour that may be greater than all before.

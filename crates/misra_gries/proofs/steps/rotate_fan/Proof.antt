@@ -1,4 +1,4 @@
--- `rotate_fan` meets its contract: a fan of one place takes d.
+-- `rotate_fan` meets its contract: a fan of one place takes d; any other has room for its colours in an array of 32 places, or of 512.
 use mathlib.Core.Path.{refl}
 use Rattle.misra_gries.specs.StepLaws.{fan-of-one}
 use Rattle.misra_gries.proofs.steps.rotate_fan.Statement.{statement}
@@ -7,8 +7,8 @@ use Rattle.misra_gries.proofs.steps.rotate_fan.Tie as tie
 returns : tie.Need-returns
 returns c = fan-of-one _ _ _ _ _ (c .before .before .before .before .before .before .before .before .before .before .before .before .before .pre .0) (c .before .before .before .before .before .before .before .before .before .before .before .before .before .pre .1 .0) (c .before .before .before .before .before .before .before .before .if1 .taken) _ _ (c .before .before .before .before .repaint .ensures)
 
-rotate-few-requires : tie.Need-rotate-few-requires
-rotate-few-requires c κs = let p = c .before .before .before .before .before .before .before .before .pre in (p .0, (p .1 .0, (p .1 .1 .0, c .before .before .if2 .taken)))
+rotate-places-requires : tie.Need-rotate-places-requires
+rotate-places-requires c κs = let p = c .before .before .before .before .before .before .before .before .before .pre in (p .0, (p .1 .0, (p .1 .1 .0, c .before .before .before .if2 .taken)))
 
 pub rotate-fan-spec : {M : Type 1} → statement M
 rotate-fan-spec =
@@ -16,6 +16,7 @@ rotate-fan-spec =
     (tie.spec
     (λ c. refl) (λ c κs. tt) (λ c. c .before .before .before .before .repaint .kept .1 .0) (λ c. c .before .before .before .before .repaint .kept .1 .1 .0)
     returns
-    rotate-few-requires
-    (λ c. c .before .before .before .before .rotate-few .kept .1 .0) (λ c. c .before .before .before .before .rotate-few .kept .1 .1 .0) (λ c. c .before .before .before .before .rotate-few .ensures)
-    (λ c κs. c .before .before .before .before .before .before .before .before .pre) (λ c. c .before .before .before .before .rotate-places .kept .1 .0) (λ c. c .before .before .before .before .rotate-places .kept .1 .1 .0) (λ c. c .before .before .before .before .rotate-places .ensures))
+    (λ c. refl)
+    rotate-places-requires
+    (λ c. c .before .before .before .before .before .rotate-places .kept .1 .0) (λ c. c .before .before .before .before .before .rotate-places .kept .1 .1 .0) (λ c. c .before .before .before .before .before .rotate-places .ensures)
+    (λ c. refl) (λ c κs. c .before .before .before .before .before .before .before .before .before .pre) (λ c. c .before .before .before .before .before .rotate-places2 .kept .1 .0) (λ c. c .before .before .before .before .before .rotate-places2 .kept .1 .1 .0) (λ c. c .before .before .before .before .before .rotate-places2 .ensures))
