@@ -4,6 +4,8 @@ ghost use Rattle.graph.specs.CheckLaws.{Passed};
 ghost use Rattle.line_graph.specs.LineReport.{reportOfLineList};
 ghost use Rattle.line_graph.specs.LineList.{lineGraph};
 use graph::Checked;
+use graph::EdgeIndex;
+use graph::NodeIndex;
 use graph::Refusal;
 use graph::check_graph;
 use incidence::incidence_front;
@@ -14,6 +16,20 @@ mod pairs;
 pub enum LineList {
     Accepted { pairs: usize },
     Refused(Refusal),
+}
+
+// The node of the line graph that an edge becomes. This function and the next alone turn one kind of number into the other.
+pub fn node_of_edge(edge: EdgeIndex) -> NodeIndex
+    ensures { λ r. ⌜ r .0 ≡ edge .0 ⌝ }
+{
+    NodeIndex(edge.0)
+}
+
+// The edge that became a node of the line graph.
+pub fn edge_of_node(node: NodeIndex) -> EdgeIndex
+    ensures { λ r. ⌜ r .0 ≡ node .0 ⌝ }
+{
+    EdgeIndex(node.0)
 }
 
 // A graph that passed the checks. The list's length is known before anything is written, so a list that is too short stays as lent.
