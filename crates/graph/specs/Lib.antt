@@ -15,3 +15,4 @@ pub mod Color
 pub mod Colored
 pub mod ColoredLaws
 pub mod NeighborLaws
+pub mod Rows
