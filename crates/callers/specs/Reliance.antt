@@ -1,4 +1,4 @@
--- What each caller relies on, in its own words, of a call's report and of its slice afterwards.
+-- What each caller relies on, of a call's report and of its slice afterwards.
 use Prim.Native.Nat.{ℕ, _<_, _≤_}
 use mathlib.Core.Path.{_≡_}
 use mathlib.Core.Logic.{_⊎_, _≢_}
@@ -15,13 +15,13 @@ use Rattle.vizing.specs.Demand3.{Admitted}
 -- ---- the date table
 
 -- Clubs are nodes, matches are edges, days are colours.
-pub record NoClubTwiceOnADay (clubs : ℕ) (matches lent : List ℕ) (report : Report ℕ) (days : List ℕ) : Type 0 where
+pub record EdgesProperlyColored (n : ℕ) (ends lent : List ℕ) (report : Report ℕ) (colors : List ℕ) : Type 0 where
   -- Every admitted list of matches is accepted;
-  pub accepts : Admitted clubs matches → length lent ≡ edgeCount matches → Accepted report
+  pub accepts : Admitted n ends → length lent ≡ edgeCount ends → Accepted report
   -- then every match has a day,
-  pub dated : (count : ℕ) → report ≡ accepted count → (k : ℕ) → k < edgeCount matches → colorOf days k ≢ noColor
+  pub colored : (days : ℕ) → report ≡ accepted days → (k : ℕ) → k < edgeCount ends → colorOf colors k ≢ noColor
   -- and two matches of one club have different days.
-  pub once : (count : ℕ) → report ≡ accepted count → (i j club : ℕ) → i < edgeCount matches → j < edgeCount matches → i ≢ j → At matches i club → At matches j club → colorOf days i ≢ colorOf days j
+  pub differ : (days : ℕ) → report ≡ accepted days → (i j v : ℕ) → i < edgeCount ends → j < edgeCount ends → i ≢ j → At ends i v → At ends j v → colorOf colors i ≢ colorOf colors j
 
 -- ---- the holiday lookup
 
@@ -42,14 +42,14 @@ pub record NoPresetMoved (n : ℕ) (ends : List ℕ) (items : ℕ) (presets lent
 -- ---- the page grid
 
 -- Boxes are nodes: the two ends of an edge touch.
-pub record TouchingNodesDiffer (n : ℕ) (ends presets : List ℕ) (Sized : Type 0) (report : Report ℕ) (colors : List ℕ) : Type 0 where
+pub record AdjacentNodesDiffer (n : ℕ) (ends presets : List ℕ) (Sized : Type 0) (report : Report ℕ) (colors : List ℕ) : Type 0 where
   pub accepts : Passed n ends → Sized → Accepted report
   pub colored : (days : ℕ) → report ≡ accepted days → (v : ℕ) → v < n → colorOf colors v ≢ noColor
   pub differ : (days : ℕ) → report ≡ accepted days → (k : ℕ) → k < edgeCount ends → firstEnd ends k ≢ secondEnd ends k
       → (colorOf presets (firstEnd ends k) ≡ noColor) ⊎ (colorOf presets (secondEnd ends k) ≡ noColor) → colorOf colors (firstEnd ends k) ≢ colorOf colors (secondEnd ends k)
 
 -- Boxes are edges: two edges touch that share an end.
-pub record TouchingEdgesDiffer (n : ℕ) (ends presets : List ℕ) (Sized : Type 0) (report : Report ℕ) (colors : List ℕ) : Type 0 where
+pub record AdjacentEdgesDiffer (n : ℕ) (ends presets : List ℕ) (Sized : Type 0) (report : Report ℕ) (colors : List ℕ) : Type 0 where
   pub accepts : Passed n ends → Sized → Accepted report
   pub colored : (days : ℕ) → report ≡ accepted days → (k : ℕ) → k < edgeCount ends → colorOf colors k ≢ noColor
   pub differ : (days : ℕ) → report ≡ accepted days → (j k v : ℕ) → j < edgeCount ends → k < edgeCount ends → j ≢ k → At ends j v → At ends k v
@@ -65,7 +65,7 @@ DiffersAlongEveryEdge ends value = (k : ℕ) → k < edgeCount ends → value (f
 abbrev pub NoAssignment : List ℕ → Type 0
 NoAssignment ends = (value : ℕ → Bool) → DiffersAlongEveryEdge ends value → ⊥
 
-pub record TwoInkPasses (n : ℕ) (ends lent : List ℕ) (report : Report ℕ) (passes : List ℕ) : Type 0 where
+pub record BipartitionOrNone (n : ℕ) (ends lent : List ℕ) (report : Report ℕ) (colors : List ℕ) : Type 0 where
   -- A no is said only where there is no assignment,
   pub no : report ≡ refused 8 → NoAssignment ends
   -- and of what passes the checks, wherever there is none;
@@ -73,4 +73,4 @@ pub record TwoInkPasses (n : ℕ) (ends lent : List ℕ) (report : Report ℕ) (
   -- a yes is said wherever there is one,
   pub can : Passed n ends → length lent ≡ n → (value : ℕ → Bool) → DiffersAlongEveryEdge ends value → Accepted report
   -- and differs along every edge.
-  pub yes : (days : ℕ) → report ≡ accepted days → (k : ℕ) → k < edgeCount ends → getD passes (firstEnd ends k) 0 ≢ getD passes (secondEnd ends k) 0
+  pub yes : (days : ℕ) → report ≡ accepted days → (k : ℕ) → k < edgeCount ends → getD colors (firstEnd ends k) 0 ≢ getD colors (secondEnd ends k) 0

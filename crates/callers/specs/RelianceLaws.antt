@@ -15,34 +15,34 @@ use Rattle.graph.specs.Edges.{edgeCount, firstEnd, secondEnd, farEnd}
 use Rattle.graph.specs.EdgeLaws.{At, far-first, far-second}
 use Rattle.graph.specs.Colored.{noColor}
 use Rattle.vizing.specs.Demand3.{Admitted, maxDegree, max-degree-bound}
-use Rattle.misra_gries.specs.Call.{DateTable}
-use Rattle.greedy.specs.Call.{HolidayLookup, PageGrid, EdgesApart}
+use Rattle.misra_gries.specs.Call.{VizingColoring}
+use Rattle.greedy.specs.Call.{PrecoloringKept, ProperNodeColoring, ProperEdgeColoring}
 use Rattle.two_color.specs.Odd.{isOdd}
 use Rattle.two_color.specs.Walk.{Walk, stay, along, OddClosedWalk}
-use Rattle.two_color.specs.TwoColor.{ProofPrinter}
-use Rattle.callers.specs.Reliance.{NoClubTwiceOnADay, LentBoth, NoPresetMoved, TouchingNodesDiffer, TouchingEdgesDiffer, DiffersAlongEveryEdge, NoAssignment, TwoInkPasses}
+use Rattle.two_color.specs.TwoColor.{Bipartition}
+use Rattle.callers.specs.Reliance.{EdgesProperlyColored, LentBoth, NoPresetMoved, AdjacentNodesDiffer, AdjacentEdgesDiffer, DiffersAlongEveryEdge, NoAssignment, BipartitionOrNone}
 
-pub no-club-twice : (clubs : ℕ) (matches lent : List ℕ) (report : Report ℕ) (days : List ℕ) → DateTable clubs matches lent report days → NoClubTwiceOnADay clubs matches lent report days
-no-club-twice clubs matches lent report days dates = record {
-  accepts = λ a l. dates .demand3 a l .accepts;
-  dated = λ count e k h q.
-      let a = dates .admits count e in
-      let r = dates .demand3 (a .0) (a .1) .accurate .range k h in
-      omega (arith, r, a .0 .edges, max-degree-bound matches (edgeCount matches) clubs);
-  once = λ count e i j club h g d p q.
-      let a = dates .admits count e in
-      dates .demand3 (a .0) (a .1) .accurate .sharing i j club (h, p) (g, q) d;
+pub edges-proper : (n : ℕ) (ends lent : List ℕ) (report : Report ℕ) (colors : List ℕ) → VizingColoring n ends lent report colors → EdgesProperlyColored n ends lent report colors
+edges-proper n ends lent report colors c = record {
+  accepts = λ a l. c .demand3 a l .accepts;
+  colored = λ days e k h q.
+      let a = c .admits days e in
+      let r = c .demand3 (a .0) (a .1) .accurate .range k h in
+      omega (arith, r, a .0 .edges, max-degree-bound ends (edgeCount ends) n);
+  differ = λ days e i j v h g d p q.
+      let a = c .admits days e in
+      c .demand3 (a .0) (a .1) .accurate .sharing i j v (h, p) (g, q) d;
 }
 
-pub no-preset-moved : (n : ℕ) (ends : List ℕ) (items : ℕ) (presets lent : List ℕ) (report : Report ℕ) (colors : List ℕ) → (Passed n ends → length presets ≡ items → length lent ≡ items → Accepted report) → HolidayLookup items presets report colors
+pub no-preset-moved : (n : ℕ) (ends : List ℕ) (items : ℕ) (presets lent : List ℕ) (report : Report ℕ) (colors : List ℕ) → (Passed n ends → length presets ≡ items → length lent ≡ items → Accepted report) → PrecoloringKept items presets report colors
     → NoPresetMoved n ends items presets lent report colors
-no-preset-moved n ends items presets lent report colors accepts holidays = record { accepts = λ p l. accepts p (l .0) (l .1); kept = holidays .kept }
+no-preset-moved n ends items presets lent report colors accepts c = record { accepts = λ p l. accepts p (l .0) (l .1); kept = c .kept }
 
-pub touching-nodes : (n : ℕ) (ends presets : List ℕ) {Sized : Type 0} (report : Report ℕ) (colors : List ℕ) → (Passed n ends → Sized → Accepted report) → PageGrid n ends presets report colors → TouchingNodesDiffer n ends presets Sized report colors
-touching-nodes n ends presets report colors accepts grid = record { accepts = accepts; colored = grid .colored; differ = grid .differ }
+pub adjacent-nodes : (n : ℕ) (ends presets : List ℕ) {Sized : Type 0} (report : Report ℕ) (colors : List ℕ) → (Passed n ends → Sized → Accepted report) → ProperNodeColoring n ends presets report colors → AdjacentNodesDiffer n ends presets Sized report colors
+adjacent-nodes n ends presets report colors accepts c = record { accepts = accepts; colored = c .colored; differ = c .differ }
 
-pub touching-edges : (n : ℕ) (ends presets : List ℕ) {Sized : Type 0} (report : Report ℕ) (colors : List ℕ) → (Passed n ends → Sized → Accepted report) → EdgesApart ends presets report colors → TouchingEdgesDiffer n ends presets Sized report colors
-touching-edges n ends presets report colors accepts apart = record { accepts = accepts; colored = apart .colored; differ = apart .differ }
+pub adjacent-edges : (n : ℕ) (ends presets : List ℕ) {Sized : Type 0} (report : Report ℕ) (colors : List ℕ) → (Passed n ends → Sized → Accepted report) → ProperEdgeColoring ends presets report colors → AdjacentEdgesDiffer n ends presets Sized report colors
+adjacent-edges n ends presets report colors accepts c = record { accepts = accepts; colored = c .colored; differ = c .differ }
 
 -- ---- two values along a walk
 
@@ -87,21 +87,21 @@ odd-none ends w value differs = go (value (w .node)) (walk-value ends value diff
 
 -- ---- the proof printer
 
-module _ (n : ℕ) (ends lent : List ℕ) (report : Report ℕ) (passes : List ℕ) (printer : ProofPrinter n ends lent report passes) where
+module _ (n : ℕ) (ends lent : List ℕ) (report : Report ℕ) (colors : List ℕ) (c : Bipartition n ends lent report colors) where
   -- An accepted answer is an assignment: 1, or not.
   assignment : Passed n ends → (days : ℕ) → report ≡ accepted days → NoAssignment ends → ⊥
-  assignment p days e none = none (λ v. eqb (getD passes v 0) 1) (λ k h q.
+  assignment p days e none = none (λ v. eqb (getD colors v 0) 1) (λ k h q.
       let i = passed-inside n ends p k h in
-      let a = printer .two days e (firstEnd ends k) (i .0) in
-      let b = printer .two days e (secondEnd ends k) (i .1) in
-      by-test (eqb (getD passes (firstEnd ends k) 0) 1)
-      (λ t. let x = eqb-true (getD passes (firstEnd ends k) 0) 1 t in let y = eqb-true (getD passes (secondEnd ends k) 0) 1 (sym q ∙ t) in printer .differ days e k h (x ∙ sym y))
-      (λ t. let x = eqb-false (getD passes (firstEnd ends k) 0) 1 t in let y = eqb-false (getD passes (secondEnd ends k) 0) 1 (sym q ∙ t) in printer .differ days e k h (omega (arith, a, b))))
+      let a = c .two days e (firstEnd ends k) (i .0) in
+      let b = c .two days e (secondEnd ends k) (i .1) in
+      by-test (eqb (getD colors (firstEnd ends k) 0) 1)
+      (λ t. let x = eqb-true (getD colors (firstEnd ends k) 0) 1 t in let y = eqb-true (getD colors (secondEnd ends k) 0) 1 (sym q ∙ t) in c .differ days e k h (x ∙ sym y))
+      (λ t. let x = eqb-false (getD colors (firstEnd ends k) 0) 1 t in let y = eqb-false (getD colors (secondEnd ends k) 0) 1 (sym q ∙ t) in c .differ days e k h (omega (arith, a, b))))
 
-  pub two-ink-passes : TwoInkPasses n ends lent report passes
-  two-ink-passes = record {
-    no = λ e. odd-none ends (printer .no e .2);
-    cannot = λ p l none. elim (printer .answers p l) [ inl e ↦ e | inr a ↦ absurd (assignment p (a .0) (a .1) none) ];
-    can = λ p l value differs. elim (printer .answers p l) [ inl e ↦ absurd (odd-none ends (printer .no e .2) value differs) | inr a ↦ a ];
-    yes = printer .differ;
+  pub bipartition-or-none : BipartitionOrNone n ends lent report colors
+  bipartition-or-none = record {
+    no = λ e. odd-none ends (c .no e .2);
+    cannot = λ p l none. elim (c .answers p l) [ inl e ↦ e | inr a ↦ absurd (assignment p (a .0) (a .1) none) ];
+    can = λ p l value differs. elim (c .answers p l) [ inl e ↦ absurd (odd-none ends (c .no e .2) value differs) | inr a ↦ a ];
+    yes = c .differ;
   }

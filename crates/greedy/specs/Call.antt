@@ -74,20 +74,20 @@ greedyEdgesPlain rule n ends colors = greedyItemsPlain rule (edgeNeighbors n end
 
 -- ---- what callers rely on
 
--- What the holiday lookup relies on: "presets never move", of nodes or of edges.
-pub record HolidayLookup (items : ℕ) (presets : List ℕ) (report : Report ℕ) (colors : List ℕ) : Type 0 where
+-- The precolouring is kept: "Presets are set first and never altered", of nodes or of edges.
+pub record PrecoloringKept (items : ℕ) (presets : List ℕ) (report : Report ℕ) (colors : List ℕ) : Type 0 where
   pub kept : (days : ℕ) → report ≡ accepted days → (v : ℕ) → v < items → colorOf presets v ≢ noColor → colorOf colors v ≡ colorOf presets v
 
--- What the page grid relies on: "neighbours differ". Two presets may be equal, and a node's own loop is no neighbour.
-pub record PageGrid (n : ℕ) (ends presets : List ℕ) (report : Report ℕ) (colors : List ℕ) : Type 0 where
+-- A proper colouring: neighbours differ. Two presets may be equal, and a node's own loop is no neighbour.
+pub record ProperNodeColoring (n : ℕ) (ends presets : List ℕ) (report : Report ℕ) (colors : List ℕ) : Type 0 where
   -- every node has a colour,
   pub colored : (days : ℕ) → report ≡ accepted days → (v : ℕ) → v < n → colorOf colors v ≢ noColor
   -- and the ends of an edge differ unless both are preset.
   pub differ : (days : ℕ) → report ≡ accepted days → (k : ℕ) → k < edgeCount ends → firstEnd ends k ≢ secondEnd ends k
       → (colorOf presets (firstEnd ends k) ≡ noColor) ⊎ (colorOf presets (secondEnd ends k) ≡ noColor) → colorOf colors (firstEnd ends k) ≢ colorOf colors (secondEnd ends k)
 
--- Edges that share an end differ unless both are preset.
-pub record EdgesApart (ends presets : List ℕ) (report : Report ℕ) (colors : List ℕ) : Type 0 where
+-- A proper edge colouring: edges that share an end differ unless both are preset.
+pub record ProperEdgeColoring (ends presets : List ℕ) (report : Report ℕ) (colors : List ℕ) : Type 0 where
   pub colored : (days : ℕ) → report ≡ accepted days → (k : ℕ) → k < edgeCount ends → colorOf colors k ≢ noColor
   pub differ : (days : ℕ) → report ≡ accepted days → (j k v : ℕ) → j < edgeCount ends → k < edgeCount ends → j ≢ k → At ends j v → At ends k v
       → (colorOf presets j ≡ noColor) ⊎ (colorOf presets k ≡ noColor) → colorOf colors j ≢ colorOf colors k

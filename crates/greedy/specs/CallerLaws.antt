@@ -22,7 +22,7 @@ use Rattle.graph.specs.Colored.{noColor}
 use Rattle.graph.specs.ColoredLaws.{color-replicate}
 use Rattle.greedy.specs.Greedy.{Neighborhood, Greedy}
 use Rattle.greedy.specs.GreedyLaws.{node-neighborhood, edge-neighborhood, sharing-neighbor}
-use Rattle.greedy.specs.Call.{Rule, itemChecks, greedyItems, greedyItemsPlain, greedyNodes, greedyNodesPlain, edgeNeighbors, greedyEdges, greedyEdgesPlain, HolidayLookup, PageGrid, EdgesApart}
+use Rattle.greedy.specs.Call.{Rule, itemChecks, greedyItems, greedyItemsPlain, greedyNodes, greedyNodesPlain, edgeNeighbors, greedyEdges, greedyEdgesPlain, PrecoloringKept, ProperNodeColoring, ProperEdgeColoring}
 use Rattle.greedy.specs.CallLaws.{item-checks-passed, passed-item-checks, items-refused, items-accepted}
 
 -- A strategy whose colours are greedy.
@@ -51,16 +51,16 @@ module _ (rule : Rule) (greedy : GreedyRule rule) (nb : ℕ → List ℕ) (items
   accepts-all : Passed n ends → length presets ≡ items → length lent ≡ items → Accepted r
   accepts-all p h k = (_, a ∙ sym (items-accepted nb items n ends presets lent rule (passed-item-checks n ends items (length presets) (length lent) p h k) _ (rule nb items presets) refl refl .0))
 
-  holidays : HolidayLookup items presets r colors
+  holidays : PrecoloringKept items presets r colors
   holidays = record { kept = λ days e v h d. accepts days e .found .kept v h d }
 
 -- ---- nodes
 
 module _ (rule : Rule) (greedy : GreedyRule rule) (n : ℕ) (ends presets lent : List ℕ) (r : Report ℕ) (colors : List ℕ)
     (a : r ≡ greedyNodes rule n ends presets lent .report) (b : colors ≡ greedyNodes rule n ends presets lent .colors) where
-  pub holiday-lookup : HolidayLookup n presets r colors
+  pub precoloring-kept : PrecoloringKept n presets r colors
   unfolding greedyNodes
-  holiday-lookup = holidays rule greedy (neighbors ends (edgeCount ends)) n n ends presets lent (node-neighborhood n ends) r colors a b
+  precoloring-kept = holidays rule greedy (neighbors ends (edgeCount ends)) n n ends presets lent (node-neighborhood n ends) r colors a b
 
   node-answer : (days : ℕ) → r ≡ accepted days → Answer n ends (neighbors ends (edgeCount ends)) n presets colors
   unfolding greedyNodes
@@ -70,8 +70,8 @@ module _ (rule : Rule) (greedy : GreedyRule rule) (n : ℕ) (ends presets lent :
   unfolding greedyNodes
   nodes-accept = accepts-all rule greedy (neighbors ends (edgeCount ends)) n n ends presets lent (node-neighborhood n ends) r colors a b
 
-  pub page-grid : PageGrid n ends presets r colors
-  page-grid = record {
+  pub proper-nodes : ProperNodeColoring n ends presets r colors
+  proper-nodes = record {
     colored = λ days e v h. node-answer days e .found .colored v h;
     differ = λ days e k h d free q.
         let s = node-answer days e in
@@ -84,9 +84,9 @@ module _ (rule : Rule) (greedy : GreedyRule rule) (n : ℕ) (ends presets lent :
 
 module _ (rule : Rule) (greedy : GreedyRule rule) (n : ℕ) (ends presets lent : List ℕ) (r : Report ℕ) (colors : List ℕ)
     (a : r ≡ greedyEdges rule n ends presets lent .report) (b : colors ≡ greedyEdges rule n ends presets lent .colors) where
-  pub edge-holidays : HolidayLookup (edgeCount ends) presets r colors
+  pub edge-precoloring-kept : PrecoloringKept (edgeCount ends) presets r colors
   unfolding greedyEdges
-  edge-holidays = holidays rule greedy (edgeNeighbors n ends) (edgeCount ends) n ends presets lent (edge-neighborhood n ends) r colors a b
+  edge-precoloring-kept = holidays rule greedy (edgeNeighbors n ends) (edgeCount ends) n ends presets lent (edge-neighborhood n ends) r colors a b
 
   edge-answer : (days : ℕ) → r ≡ accepted days → Answer n ends (edgeNeighbors n ends) (edgeCount ends) presets colors
   unfolding greedyEdges
@@ -96,8 +96,8 @@ module _ (rule : Rule) (greedy : GreedyRule rule) (n : ℕ) (ends presets lent :
   unfolding greedyEdges
   edges-accept = accepts-all rule greedy (edgeNeighbors n ends) (edgeCount ends) n ends presets lent (edge-neighborhood n ends) r colors a b
 
-  pub edges-apart : EdgesApart ends presets r colors
-  edges-apart = record {
+  pub proper-edges : ProperEdgeColoring ends presets r colors
+  proper-edges = record {
     colored = λ days e k h. edge-answer days e .found .colored k h;
     differ = λ days e j k v h g d p q free.
         let s = edge-answer days e in
@@ -107,13 +107,13 @@ module _ (rule : Rule) (greedy : GreedyRule rule) (n : ℕ) (ends presets lent :
 -- ---- the form without presets
 
 -- Where nothing is preset, which presets those are does not matter.
-pub grid-without-presets : (n : ℕ) (ends : List ℕ) (r : Report ℕ) (colors : List ℕ) (k : ℕ) → PageGrid n ends (replicate k noColor) r colors → PageGrid n ends [] r colors
+pub grid-without-presets : (n : ℕ) (ends : List ℕ) (r : Report ℕ) (colors : List ℕ) (k : ℕ) → ProperNodeColoring n ends (replicate k noColor) r colors → ProperNodeColoring n ends [] r colors
 grid-without-presets n ends r colors k grid = record {
   colored = grid .colored;
   differ = λ days e j h d free. grid .differ days e j h d (inl (color-replicate k (firstEnd ends j)));
 }
 
-pub apart-without-presets : (ends : List ℕ) (r : Report ℕ) (colors : List ℕ) (k : ℕ) → EdgesApart ends (replicate k noColor) r colors → EdgesApart ends [] r colors
+pub apart-without-presets : (ends : List ℕ) (r : Report ℕ) (colors : List ℕ) (k : ℕ) → ProperEdgeColoring ends (replicate k noColor) r colors → ProperEdgeColoring ends [] r colors
 apart-without-presets ends r colors k apart = record {
   colored = apart .colored;
   differ = λ days e i j v h g d p q free. apart .differ days e i j v h g d p q (inl (color-replicate k i));

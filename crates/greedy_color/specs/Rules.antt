@@ -11,8 +11,8 @@ use Rattle.graph.specs.CheckLaws.{Passed}
 use Rattle.greedy.specs.Degree.{degreeOrder, degreeColors}
 use Rattle.greedy.specs.TurnLaws.{in-order-greedy}
 use Rattle.greedy.specs.declared.ColoringStrategy.{ColoringStrategy}
-use Rattle.greedy.specs.Call.{Rule, ruleOf, greedyNodes, greedyNodesPlain, greedyEdges, greedyEdgesPlain, HolidayLookup, PageGrid, EdgesApart}
-use Rattle.greedy.specs.CallerLaws.{GreedyRule, nodes-accept, edges-accept, holiday-lookup, page-grid, edge-holidays, edges-apart, nodes-plain-same, edges-plain-same, grid-without-presets, apart-without-presets}
+use Rattle.greedy.specs.Call.{Rule, ruleOf, greedyNodes, greedyNodesPlain, greedyEdges, greedyEdgesPlain, PrecoloringKept, ProperNodeColoring, ProperEdgeColoring}
+use Rattle.greedy.specs.CallerLaws.{GreedyRule, nodes-accept, edges-accept, precoloring-kept, proper-nodes, edge-precoloring-kept, proper-edges, nodes-plain-same, edges-plain-same, grid-without-presets, apart-without-presets}
 use Rattle.greedy.specs.IndependentSet.{independentSetColors}
 use Rattle.independent_set.specs.IndependentSetLaws.{independent-set-greedy}
 use Rattle.degree.specs.OrderLaws.{order-member, member-order, order-nodup}
@@ -28,8 +28,8 @@ independent-set-rule nb n hood presets l = independent-set-greedy nb n presets h
 
 module _ (rule : Rule) (greedy : GreedyRule rule) (n : ℕ) (ends presets lent : List ℕ) (r : Report ℕ) (colors : List ℕ)
     (a : r ≡ greedyNodes rule n ends presets lent .report) (b : colors ≡ greedyNodes rule n ends presets lent .colors) where
-  pub with-presets : (r ≡ greedyNodes rule n ends presets lent .report) × ((colors ≡ greedyNodes rule n ends presets lent .colors) × ((Passed n ends → length presets ≡ n → length lent ≡ n → Accepted r) × (HolidayLookup n presets r colors × PageGrid n ends presets r colors)))
-  with-presets = (a, (b, (nodes-accept rule greedy n ends presets lent r colors a b, (holiday-lookup rule greedy n ends presets lent r colors a b, page-grid rule greedy n ends presets lent r colors a b))))
+  pub with-presets : (r ≡ greedyNodes rule n ends presets lent .report) × ((colors ≡ greedyNodes rule n ends presets lent .colors) × ((Passed n ends → length presets ≡ n → length lent ≡ n → Accepted r) × (PrecoloringKept n presets r colors × ProperNodeColoring n ends presets r colors)))
+  with-presets = (a, (b, (nodes-accept rule greedy n ends presets lent r colors a b, (precoloring-kept rule greedy n ends presets lent r colors a b, proper-nodes rule greedy n ends presets lent r colors a b))))
 
 -- ---- the calls without presets: as many empty presets as there are colours, or as there may be items at most
 
@@ -40,7 +40,7 @@ presets-part k most h = sym (length-take-le k (replicate most noColor) (rw (leng
 module _ (n : ℕ) (ends : List ℕ) (k : ℕ) (lent : List ℕ) (r : Report ℕ) (colors : List ℕ) where
   module _ (presets : List ℕ) (e : presets ≡ replicate k noColor) where
     pub nodes-without-presets : (Passed n ends → length lent ≡ n → k ≡ n) → r ≡ greedyNodes degreeColors n ends presets lent .report → colors ≡ greedyNodes degreeColors n ends presets lent .colors
-        → (r ≡ greedyNodesPlain degreeColors n ends lent .report) × ((colors ≡ greedyNodesPlain degreeColors n ends lent .colors) × ((Passed n ends → length lent ≡ n → Accepted r) × PageGrid n ends [] r colors))
+        → (r ≡ greedyNodesPlain degreeColors n ends lent .report) × ((colors ≡ greedyNodesPlain degreeColors n ends lent .colors) × ((Passed n ends → length lent ≡ n → Accepted r) × ProperNodeColoring n ends [] r colors))
     nodes-without-presets as-many a b =
         let p = nodes-plain-same degreeColors n ends presets lent (λ h l. e ∙ ap (λ (i : ℕ). replicate i noColor) (as-many h l)) in
         let sized : Passed n ends → length lent ≡ n → length presets ≡ n = λ h l. ap length e ∙ (length-replicate k noColor ∙ as-many h l) in (
@@ -49,13 +49,13 @@ module _ (n : ℕ) (ends : List ℕ) (k : ℕ) (lent : List ℕ) (r : Report ℕ
             b ∙ p .1,
             (
               λ h l. nodes-accept degreeColors degree-greedy n ends presets lent r colors a b h (sized h l) l,
-              grid-without-presets n ends r colors k (subst (λ (x : List ℕ). PageGrid n ends x r colors) e (page-grid degreeColors degree-greedy n ends presets lent r colors a b)),
+              grid-without-presets n ends r colors k (subst (λ (x : List ℕ). ProperNodeColoring n ends x r colors) e (proper-nodes degreeColors degree-greedy n ends presets lent r colors a b)),
             ),
           ),
         )
 
     pub edges-without-presets : (Passed n ends → length lent ≡ edgeCount ends → k ≡ edgeCount ends) → r ≡ greedyEdges degreeColors n ends presets lent .report → colors ≡ greedyEdges degreeColors n ends presets lent .colors
-        → (r ≡ greedyEdgesPlain degreeColors n ends lent .report) × ((colors ≡ greedyEdgesPlain degreeColors n ends lent .colors) × ((Passed n ends → length lent ≡ edgeCount ends → Accepted r) × EdgesApart ends [] r colors))
+        → (r ≡ greedyEdgesPlain degreeColors n ends lent .report) × ((colors ≡ greedyEdgesPlain degreeColors n ends lent .colors) × ((Passed n ends → length lent ≡ edgeCount ends → Accepted r) × ProperEdgeColoring ends [] r colors))
     edges-without-presets as-many a b =
         let p = edges-plain-same degreeColors n ends presets lent (λ h l. e ∙ ap (λ (i : ℕ). replicate i noColor) (as-many h l)) in
         let sized : Passed n ends → length lent ≡ edgeCount ends → length presets ≡ edgeCount ends = λ h l. ap length e ∙ (length-replicate k noColor ∙ as-many h l) in (
@@ -64,7 +64,7 @@ module _ (n : ℕ) (ends : List ℕ) (k : ℕ) (lent : List ℕ) (r : Report ℕ
             b ∙ p .1,
             (
               λ h l. edges-accept degreeColors degree-greedy n ends presets lent r colors a b h (sized h l) l,
-              apart-without-presets ends r colors k (subst (λ (x : List ℕ). EdgesApart ends x r colors) e (edges-apart degreeColors degree-greedy n ends presets lent r colors a b)),
+              apart-without-presets ends r colors k (subst (λ (x : List ℕ). ProperEdgeColoring ends x r colors) e (proper-edges degreeColors degree-greedy n ends presets lent r colors a b)),
             ),
           ),
         )
@@ -74,11 +74,11 @@ module _ (n : ℕ) (ends : List ℕ) (k : ℕ) (lent : List ℕ) (r : Report ℕ
 -- A call by the strategy that the caller named.
 pub by-strategy : (strategy known : ColoringStrategy) → strategy ≡ known → GreedyRule (ruleOf known) → (n : ℕ) (ends presets lent : List ℕ) (r : Report ℕ) (colors : List ℕ)
     → r ≡ greedyNodes (ruleOf known) n ends presets lent .report → colors ≡ greedyNodes (ruleOf known) n ends presets lent .colors
-    → (r ≡ greedyNodes (ruleOf strategy) n ends presets lent .report) × ((colors ≡ greedyNodes (ruleOf strategy) n ends presets lent .colors) × ((Passed n ends → length presets ≡ n → length lent ≡ n → Accepted r) × (HolidayLookup n presets r colors × PageGrid n ends presets r colors)))
+    → (r ≡ greedyNodes (ruleOf strategy) n ends presets lent .report) × ((colors ≡ greedyNodes (ruleOf strategy) n ends presets lent .colors) × ((Passed n ends → length presets ≡ n → length lent ≡ n → Accepted r) × (PrecoloringKept n presets r colors × ProperNodeColoring n ends presets r colors)))
 by-strategy strategy known e greedy n ends presets lent r colors a b = rw e (with-presets (ruleOf known) greedy n ends presets lent r colors a b)
 
 pub edges-by-strategy : (strategy known : ColoringStrategy) → strategy ≡ known → GreedyRule (ruleOf known) → (n : ℕ) (ends presets lent : List ℕ) (r : Report ℕ) (colors : List ℕ)
     → r ≡ greedyEdges (ruleOf known) n ends presets lent .report → colors ≡ greedyEdges (ruleOf known) n ends presets lent .colors
-    → (r ≡ greedyEdges (ruleOf strategy) n ends presets lent .report) × ((colors ≡ greedyEdges (ruleOf strategy) n ends presets lent .colors) × ((Passed n ends → length presets ≡ edgeCount ends → length lent ≡ edgeCount ends → Accepted r) × (HolidayLookup (edgeCount ends) presets r colors × EdgesApart ends presets r colors)))
+    → (r ≡ greedyEdges (ruleOf strategy) n ends presets lent .report) × ((colors ≡ greedyEdges (ruleOf strategy) n ends presets lent .colors) × ((Passed n ends → length presets ≡ edgeCount ends → length lent ≡ edgeCount ends → Accepted r) × (PrecoloringKept (edgeCount ends) presets r colors × ProperEdgeColoring ends presets r colors)))
 edges-by-strategy strategy known e greedy n ends presets lent r colors a b =
-    rw e (a, (b, (edges-accept (ruleOf known) greedy n ends presets lent r colors a b, (edge-holidays (ruleOf known) greedy n ends presets lent r colors a b, edges-apart (ruleOf known) greedy n ends presets lent r colors a b))))
+    rw e (a, (b, (edges-accept (ruleOf known) greedy n ends presets lent r colors a b, (edge-precoloring-kept (ruleOf known) greedy n ends presets lent r colors a b, proper-edges (ruleOf known) greedy n ends presets lent r colors a b))))

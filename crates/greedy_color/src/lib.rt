@@ -6,7 +6,7 @@ ghost use Rattle.graph.specs.Report.{reportOfColoring, Accepted};
 ghost use Rattle.graph.specs.CheckLaws.{Passed};
 ghost use Rattle.graph.specs.Edges.{edgeCount};
 ghost use Rattle.greedy.specs.Degree.{degreeColors};
-ghost use Rattle.greedy.specs.Call.{ruleOf, greedyNodes, greedyNodesPlain, greedyEdges, greedyEdgesPlain, HolidayLookup, PageGrid, EdgesApart};
+ghost use Rattle.greedy.specs.Call.{ruleOf, greedyNodes, greedyNodesPlain, greedyEdges, greedyEdgesPlain, PrecoloringKept, ProperNodeColoring, ProperEdgeColoring};
 use graph::Color;
 use graph::Coloring;
 use graph::Graph;
@@ -18,7 +18,7 @@ pub fn greedy_node_color(n: usize, ends: &[u16], colors: &mut [u16]) -> Coloring
     ensures { λ r. ⌜ reportOfColoring r ≡ greedyNodesPlain degreeColors n (now (ends .entry)) (now (colors .entry)) .report ⌝ }
     ensures { λ _. ⌜ now (colors .exit) ≡ greedyNodesPlain degreeColors n (now (ends .entry)) (now (colors .entry)) .colors ⌝ }
     ensures accepts { λ r. ⌜ (Passed n (now (ends .entry)) → length (now (colors .entry)) ≡ n → Accepted (reportOfColoring r)) ⌝ }
-    ensures grid { λ r. ⌜ PageGrid n (now (ends .entry)) [] (reportOfColoring r) (now (colors .exit)) ⌝ }
+    ensures proper { λ r. ⌜ ProperNodeColoring n (now (ends .entry)) [] (reportOfColoring r) (now (colors .exit)) ⌝ }
 {
     let presets = [Color::NONE; 512];
     let lent = colors.len();
@@ -39,8 +39,8 @@ pub fn greedy_node_color_with_preset_colors(
     ensures { λ r. ⌜ reportOfColoring r ≡ greedyNodes degreeColors n (now (ends .entry)) (now (presets .entry)) (now (colors .entry)) .report ⌝ }
     ensures { λ _. ⌜ now (colors .exit) ≡ greedyNodes degreeColors n (now (ends .entry)) (now (presets .entry)) (now (colors .entry)) .colors ⌝ }
     ensures accepts { λ r. ⌜ (Passed n (now (ends .entry)) → length (now (presets .entry)) ≡ n → length (now (colors .entry)) ≡ n → Accepted (reportOfColoring r)) ⌝ }
-    ensures holidays { λ r. ⌜ HolidayLookup n (now (presets .entry)) (reportOfColoring r) (now (colors .exit)) ⌝ }
-    ensures grid { λ r. ⌜ PageGrid n (now (ends .entry)) (now (presets .entry)) (reportOfColoring r) (now (colors .exit)) ⌝ }
+    ensures precoloring { λ r. ⌜ PrecoloringKept n (now (presets .entry)) (reportOfColoring r) (now (colors .exit)) ⌝ }
+    ensures proper { λ r. ⌜ ProperNodeColoring n (now (ends .entry)) (now (presets .entry)) (reportOfColoring r) (now (colors .exit)) ⌝ }
 {
     degree::color_nodes(n, ends, presets, colors)
 }
@@ -56,8 +56,8 @@ pub fn greedy_node_color_with_coloring_strategy(
     ensures { λ r. ⌜ reportOfColoring r ≡ greedyNodes (ruleOf strategy) n (now (ends .entry)) (now (presets .entry)) (now (colors .entry)) .report ⌝ }
     ensures { λ _. ⌜ now (colors .exit) ≡ greedyNodes (ruleOf strategy) n (now (ends .entry)) (now (presets .entry)) (now (colors .entry)) .colors ⌝ }
     ensures accepts { λ r. ⌜ (Passed n (now (ends .entry)) → length (now (presets .entry)) ≡ n → length (now (colors .entry)) ≡ n → Accepted (reportOfColoring r)) ⌝ }
-    ensures holidays { λ r. ⌜ HolidayLookup n (now (presets .entry)) (reportOfColoring r) (now (colors .exit)) ⌝ }
-    ensures grid { λ r. ⌜ PageGrid n (now (ends .entry)) (now (presets .entry)) (reportOfColoring r) (now (colors .exit)) ⌝ }
+    ensures precoloring { λ r. ⌜ PrecoloringKept n (now (presets .entry)) (reportOfColoring r) (now (colors .exit)) ⌝ }
+    ensures proper { λ r. ⌜ ProperNodeColoring n (now (ends .entry)) (now (presets .entry)) (reportOfColoring r) (now (colors .exit)) ⌝ }
 {
     match strategy {
         ColoringStrategy::Degree => degree::color_nodes(n, ends, presets, colors),
@@ -71,7 +71,7 @@ pub fn greedy_edge_color(n: usize, ends: &[u16], colors: &mut [u16]) -> Coloring
     ensures { λ r. ⌜ reportOfColoring r ≡ greedyEdgesPlain degreeColors n (now (ends .entry)) (now (colors .entry)) .report ⌝ }
     ensures { λ _. ⌜ now (colors .exit) ≡ greedyEdgesPlain degreeColors n (now (ends .entry)) (now (colors .entry)) .colors ⌝ }
     ensures accepts { λ r. ⌜ (Passed n (now (ends .entry)) → length (now (colors .entry)) ≡ edgeCount (now (ends .entry)) → Accepted (reportOfColoring r)) ⌝ }
-    ensures apart { λ r. ⌜ EdgesApart (now (ends .entry)) [] (reportOfColoring r) (now (colors .exit)) ⌝ }
+    ensures proper { λ r. ⌜ ProperEdgeColoring (now (ends .entry)) [] (reportOfColoring r) (now (colors .exit)) ⌝ }
 {
     let presets = [Color::NONE; 4096];
     let lent = colors.len();
@@ -93,8 +93,8 @@ pub fn greedy_edge_color_with_coloring_strategy(
     ensures { λ r. ⌜ reportOfColoring r ≡ greedyEdges (ruleOf strategy) n (now (ends .entry)) (now (presets .entry)) (now (colors .entry)) .report ⌝ }
     ensures { λ _. ⌜ now (colors .exit) ≡ greedyEdges (ruleOf strategy) n (now (ends .entry)) (now (presets .entry)) (now (colors .entry)) .colors ⌝ }
     ensures accepts { λ r. ⌜ (Passed n (now (ends .entry)) → length (now (presets .entry)) ≡ edgeCount (now (ends .entry)) → length (now (colors .entry)) ≡ edgeCount (now (ends .entry)) → Accepted (reportOfColoring r)) ⌝ }
-    ensures holidays { λ r. ⌜ HolidayLookup (edgeCount (now (ends .entry))) (now (presets .entry)) (reportOfColoring r) (now (colors .exit)) ⌝ }
-    ensures apart { λ r. ⌜ EdgesApart (now (ends .entry)) (now (presets .entry)) (reportOfColoring r) (now (colors .exit)) ⌝ }
+    ensures precoloring { λ r. ⌜ PrecoloringKept (edgeCount (now (ends .entry))) (now (presets .entry)) (reportOfColoring r) (now (colors .exit)) ⌝ }
+    ensures proper { λ r. ⌜ ProperEdgeColoring (now (ends .entry)) (now (presets .entry)) (reportOfColoring r) (now (colors .exit)) ⌝ }
 {
     match strategy {
         ColoringStrategy::Degree => degree::color_edges(n, ends, presets, colors),

@@ -17,7 +17,7 @@ use Rattle.graph.specs.Colored.{noColor}
 use Rattle.graph.specs.declared.Refusal.{Refusal}
 use Rattle.graph.specs.declared.Coloring.{Coloring}
 use Rattle.graph.specs.declared.Coloring.the-variants as O
-use Rattle.misra_gries.specs.Call.{DateTable}
+use Rattle.misra_gries.specs.Call.{VizingColoring}
 use Rattle.vizing.specs.MisraGries.{misraGries, misraGriesChecks}
 use Rattle.vizing.specs.DefinitionLaws.{some-or-none}
 use Rattle.matchday_text.specs.Text.{daysText, refusedText, reportText, outcomeText, coloredText}
@@ -59,7 +59,7 @@ module _ (n : ℕ) (ends lent : List ℕ) where
     accepted-whole : whole ≡ daysText days ends colors
     accepted-whole = accepted-answer ends (misraGries n ends lent) c days colors e p q
 
-    pub accepted-room : DateTable n ends lent (reportOfColoring c) colors → (edgeCount ends ≤ 65535) × Room 0 (daysText days ends colors)
+    pub accepted-room : VizingColoring n ends lent (reportOfColoring c) colors → (edgeCount ends ≤ 65535) × Room 0 (daysText days ends colors)
     accepted-room dates = (omega (arith, dates .admits days (ap reportOfColoring p) .0 .edges), room (daysText days ends colors) accepted-whole)
 
     pub accepted-text : (before after : List ℕ) (end : ℕ) → Put before 0 (daysText days ends colors) after end → (end ≡ length whole) × (after ≡ copiedOver whole before)

@@ -15,8 +15,8 @@ pub record Demand3Of (n : ℕ) (ends : List ℕ) (report : Report ℕ) (colors :
   pub accurate : Accurate n ends colors
   pub first : (k : ℕ) → k ≤ edgeCount ends → FirstEdgesAlone misraGries held n ends k
 
--- What the date table relies on.
-pub record DateTable (n : ℕ) (ends lent : List ℕ) (report : Report ℕ) (colors : List ℕ) : Type 0 where
+-- Vizing's bound, with which lists are accepted.
+pub record VizingColoring (n : ℕ) (ends lent : List ℕ) (report : Report ℕ) (colors : List ℕ) : Type 0 where
   -- Every admitted list with a place for each edge is accepted, and demand 3 holds of it,
   pub demand3 : Admitted n ends → length lent ≡ edgeCount ends → Demand3Of n ends report colors
   -- and nothing else is accepted.

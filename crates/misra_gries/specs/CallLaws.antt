@@ -22,7 +22,7 @@ use Rattle.vizing.specs.Demand3.{Admitted}
 use Rattle.vizing.specs.Theorem.{demand3}
 use Rattle.vizing.specs.Checks.{simple-admitted, passed-admitted}
 use Rattle.simple_graph.specs.Simple.{checkSimple, simple-refused, simple-accepted}
-use Rattle.misra_gries.specs.Call.{Demand3Of, DateTable}
+use Rattle.misra_gries.specs.Call.{Demand3Of, VizingColoring}
 
 -- ---- the whole call
 
@@ -85,8 +85,8 @@ module _ (n : ℕ) (ends lent : List ℕ) where
       go none f = passed-admitted n ends lent f
       go (some k) f = let q = refuses k f .0 in let z : _≡_ {A = ℕ} 0 1 = cc in absurd (omega arith)
 
-  pub date-table : (r : Report ℕ) (colors : List ℕ) → r ≡ misraGries n ends lent .report → colors ≡ misraGries n ends lent .colors → DateTable n ends lent r colors
-  date-table r colors p q = record {
+  pub vizing-coloring : (r : Report ℕ) (colors : List ℕ) → r ≡ misraGries n ends lent .report → colors ≡ misraGries n ends lent .colors → VizingColoring n ends lent r colors
+  vizing-coloring r colors p q = record {
     demand3 = λ a l.
         let d = demand3 n ends lent a l in
         record { accepts = rw p (d .accepts); accurate = rw q (d .accurate); first = d .first };

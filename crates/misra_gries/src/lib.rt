@@ -10,7 +10,7 @@ ghost use Rattle.graph.specs.Color.{daysOf};
 ghost use Rattle.graph.specs.StretchLaws.{Table};
 ghost use Rattle.vizing.specs.MisraGries.{held, misraGries};
 ghost use Rattle.vizing.specs.Demand3.{Admitted};
-ghost use Rattle.misra_gries.specs.Call.{DateTable};
+ghost use Rattle.misra_gries.specs.Call.{VizingColoring};
 use edge_table::EdgeTable;
 use graph::Checked;
 use graph::Color;
@@ -79,7 +79,7 @@ fn color_admitted(n: usize, ends: &[u16], colors: &mut [u16]) -> Coloring
 pub fn misra_gries_edge_color(n: usize, ends: &[u16], colors: &mut [u16]) -> Coloring
     ensures { λ r. ⌜ reportOfColoring r ≡ misraGries n (now (ends .entry)) (now (colors .entry)) .report ⌝ }
     ensures { λ _. ⌜ now (colors .exit) ≡ misraGries n (now (ends .entry)) (now (colors .entry)) .colors ⌝ }
-    ensures dates { λ r. ⌜ DateTable n (now (ends .entry)) (now (colors .entry)) (reportOfColoring r) (now (colors .exit)) ⌝ }
+    ensures vizing { λ r. ⌜ VizingColoring n (now (ends .entry)) (now (colors .entry)) (reportOfColoring r) (now (colors .exit)) ⌝ }
 {
     match check_graph(n, ends) {
         Checked::Refused(refusal) => {

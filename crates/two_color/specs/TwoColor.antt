@@ -1,4 +1,4 @@
--- The outcome of two_color, and what the proof printer relies on.
+-- The outcome of two_color, and what it says: a bipartition, or that there is none.
 use Prim.Native.Nat.{ℕ, _≤_, _<_}
 use mathlib.Core.Path.{_≡_}
 use mathlib.Core.Logic.{_⊎_, _≢_}
@@ -22,8 +22,8 @@ twoColor n ends colors =
     let m = edgeCount ends in
     colored (inputChecks n ends colors ++ (oddCycle ends m gives 8) ∷ []) colors (sides ends m n)
 
--- What the proof printer relies on: "a plain no where it can't be done", and two ink passes that part every edge where it can.
-pub record ProofPrinter (n : ℕ) (ends lent : List ℕ) (report : Report ℕ) (colors : List ℕ) : Type 0 where
+-- A bipartition, or that there is none: "It succeeds unless a closed walk of odd length exists".
+pub record Bipartition (n : ℕ) (ends lent : List ℕ) (report : Report ℕ) (colors : List ℕ) : Type 0 where
   -- 8 is said only where the other checks pass and an odd closed walk exists,
   pub no : report ≡ refused 8 → Passed n ends × (length lent ≡ n) × OddClosedWalk ends (edgeCount ends)
   -- and wherever they do;

@@ -1,4 +1,4 @@
--- Laws of the call: one for each answer, and what the proof printer relies on.
+-- Laws of the call: one for each answer, and the clause of the bipartition.
 use Prim.Native.Nat.{ℕ, _-_, _≤_, _<_}
 use mathlib.Core.Path.{_≡_, refl, sym, ap, _∙_}
 use mathlib.Core.List.{List, [], _∷_}
@@ -22,7 +22,7 @@ use Rattle.graph.specs.declared.Checked.the-variants as C
 use Rattle.two_color.specs.Walk.{OddClosedWalk}
 use Rattle.two_color.specs.Sides.{oddCycle, sideColor, sides}
 use Rattle.two_color.specs.SideLaws.{odd-cycle-walk, walk-odd-cycle, side-color-bound, color-second, length-sides, sides-at, lowest-node-one}
-use Rattle.two_color.specs.TwoColor.{inputChecks, twoColor, sidesOutcome, ProofPrinter}
+use Rattle.two_color.specs.TwoColor.{inputChecks, twoColor, sidesOutcome, Bipartition}
 
 -- ---- where the other checks pass
 
@@ -98,7 +98,7 @@ module _ (n : ℕ) (ends lent : List ℕ) where
         let o = after-input (after-graph ∙ (first-passes (not (eqb (length lent) n)) 5 [] t ∙ all-passed)) in
         (a ∙ o .0, b ∙ o .1)
 
-  -- ---- the proof printer
+  -- ---- the bipartition
 
   answer : Answer n ends lent
   answer = go (firstRefusal (inputChecks n ends lent)) refl
@@ -146,8 +146,8 @@ module _ (n : ℕ) (ends lent : List ℕ) where
     accepts (odd f t p) days e = let z : _≡_ {A = ℕ} 0 1 = cc in absurd (omega arith)
     accepts (sided f t p q) days e = record { passed = input-passed f .0; even = t; at = λ v h. ap (λ (l : List ℕ). getD l v 0) (b ∙ q) ∙ sides-at ends (edgeCount ends) n v h }
 
-    pub proof-printer : ProofPrinter n ends lent r colors
-    proof-printer = record {
+    pub bipartition : Bipartition n ends lent r colors
+    bipartition = record {
       no = says-no answer;
       cannot = λ h l. cannot-be answer (passed-input h l);
       answers = λ h l. answers-one answer (passed-input h l);

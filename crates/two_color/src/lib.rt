@@ -4,7 +4,7 @@ ghost use Prim.Native.Nat.{ℕ, _≤_, _<_};
 ghost use lib.ListN.{length, getD};
 ghost use Rattle.graph.specs.Report.{reportOfColoring};
 ghost use Rattle.graph.specs.CheckLaws.{Passed};
-ghost use Rattle.two_color.specs.TwoColor.{twoColor, sidesOutcome, ProofPrinter};
+ghost use Rattle.two_color.specs.TwoColor.{twoColor, sidesOutcome, Bipartition};
 use graph::Checked;
 use graph::Coloring;
 use graph::Refusal;
@@ -48,7 +48,7 @@ fn color_checked(n: usize, ends: &[u16], colors: &mut [u8]) -> Coloring
 pub fn two_color(n: usize, ends: &[u16], colors: &mut [u8]) -> Coloring
     ensures { λ r. ⌜ reportOfColoring r ≡ twoColor n (now (ends .entry)) (now (colors .entry)) .report ⌝ }
     ensures { λ _. ⌜ now (colors .exit) ≡ twoColor n (now (ends .entry)) (now (colors .entry)) .colors ⌝ }
-    ensures printer { λ r. ⌜ ProofPrinter n (now (ends .entry)) (now (colors .entry)) (reportOfColoring r) (now (colors .exit)) ⌝ }
+    ensures bipartition { λ r. ⌜ Bipartition n (now (ends .entry)) (now (colors .entry)) (reportOfColoring r) (now (colors .exit)) ⌝ }
 {
     match check_graph(n, ends) {
         Checked::Refused(refusal) => {

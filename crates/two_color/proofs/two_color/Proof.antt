@@ -1,14 +1,14 @@
--- `two_color` meets its contract: each answer's tests say which check refuses, or that none does; the proof printer's clause follows from the outcome.
+-- `two_color` meets its contract: each answer's tests say which check refuses, or that none does; the clause of the bipartition follows from the outcome.
 use borrow.Author.Needs.{needs}
-use Rattle.two_color.specs.TwoColorLaws.{graph-no, graph-yes, length-no, length-yes, checked-yes, proof-printer}
+use Rattle.two_color.specs.TwoColorLaws.{graph-no, graph-yes, length-no, length-yes, checked-yes, bipartition}
 use Rattle.two_color.proofs.two_color.Statement.{statement}
 use Rattle.two_color.proofs.two_color.Tie as tie
 
 returns : tie.Need-returns
-returns c = let o = graph-no _ _ _ _ _ (c .before .before .before .check-graph .ensures) (c .before .refusal .given .1) in (o .0, (o .1, proof-printer _ _ _ _ _ (o .0) (o .1)))
+returns c = let o = graph-no _ _ _ _ _ (c .before .before .before .check-graph .ensures) (c .before .refusal .given .1) in (o .0, (o .1, bipartition _ _ _ _ _ (o .0) (o .1)))
 
 returns-2 : tie.Need-returns-2
-returns-2 c = let o = length-no _ _ _ _ _ (c .before .before .before .before .before .check-graph .ensures) (c .before .before .before .graph .given .1) (c .if1 .taken) in (o .0, (o .1, proof-printer _ _ _ _ _ (o .0) (o .1)))
+returns-2 c = let o = length-no _ _ _ _ _ (c .before .before .before .before .before .check-graph .ensures) (c .before .before .before .graph .given .1) (c .if1 .taken) in (o .0, (o .1, bipartition _ _ _ _ _ (o .0) (o .1)))
 
 color-checked-requires : tie.Need-color-checked-requires
 color-checked-requires c κs = let e = c .before .before .before .before .before .before .check-graph .ensures in let p = c .before .before .before .before .graph .given .1 in (graph-yes _ _ (c .before .before .before .before .before .before .before .before .before .args .colors .now) _ _ e p, length-yes _ _ (c .before .before .before .before .before .before .before .before .before .args .colors .now) _ _ e p (c .before .if1 .left))
@@ -17,7 +17,7 @@ returns-3 : tie.Need-returns-3
 returns-3 c =
     let r = c .before .before .color-checked .ensures in
     let o = checked-yes _ _ _ _ _ (c .before .before .before .before .before .before .before .before .before .check-graph .ensures) (c .before .before .before .before .before .before .before .graph .given .1) _ _ (c .before .before .before .before .if1 .left) (r .0) (r .1) in
-    (o .0, (o .1, proof-printer _ _ _ _ _ (o .0) (o .1)))
+    (o .0, (o .1, bipartition _ _ _ _ _ (o .0) (o .1)))
 
 pub two-color-spec : {M : Type 1} → statement M
 two-color-spec =
