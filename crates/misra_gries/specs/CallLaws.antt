@@ -1,28 +1,27 @@
 -- Laws of the call: one for each answer, and demand 3.
 use Prim.Native.Nat.{ℕ}
-use mathlib.Core.Path.{_≡_, refl, sym, ap, _∙_}
-use mathlib.Core.List.{List, [], _∷_}
-use mathlib.Core.Bool.{Bool, true, false, not}
-use mathlib.Core.Option.{Option, none, some}
-use native.Mathlib.Omega.{arith}
+use mathlib.Core.Path.{_≡_, sym, _∙_}
+use mathlib.Core.List.{List, _∷_}
+use mathlib.Core.Bool.{true, false, not}
+use mathlib.Core.Option.{some}
 use lib.ListN.{length, take}
 use lib.Dec.{eqb}
-use borrow.Author.Tests.{eq-eqb, ne-eqb, eqb-true, not-false}
+use borrow.Author.Tests.{eq-eqb, ne-eqb}
 use Rattle.graph.specs.Report.{Report, accepted, refused, number, reportOfChecked}
-use Rattle.graph.specs.Check.{firstRefusal, answered, written, graphChecks, lengthCheck, checkGraph}
-use Rattle.graph.specs.CheckLaws.{Passed, passed, refused-first, passed-first, passed-both, passed-one, first-refuses, first-passes, all-passed, answered-refused, answered-accepted, written-refused, written-accepted, graph-refused, graph-accepted}
+use Rattle.graph.specs.Check.{firstRefusal, graphChecks, lengthCheck, checkGraph}
+use Rattle.graph.specs.CheckLaws.{Passed, passed, refused-first, passed-first, first-refuses, first-passes, answered-refused, answered-accepted, written-refused, written-accepted, graph-refused, graph-accepted}
 use Rattle.graph.specs.Edges.{edgeCount}
-use Rattle.graph.specs.Color.{Outcome, colored, daysOf}
+use Rattle.graph.specs.Color.{colored, daysOf}
 use Rattle.graph.specs.declared.Refusal.{Refusal}
 use Rattle.graph.specs.declared.Graph.{Graph}
 use Rattle.graph.specs.declared.Checked.{Checked}
 use Rattle.graph.specs.declared.Checked.the-variants as C
 use Rattle.vizing.specs.MisraGries.{held, simpleChecks, misraGriesChecks, misraGries}
 use Rattle.vizing.specs.Demand3.{Admitted}
-use Rattle.vizing.specs.Theorem.{demand3}
-use Rattle.vizing.specs.Checks.{simple-admitted, passed-admitted}
+use Rattle.vizing.specs.Clause.{VizingColoring}
+use Rattle.vizing.specs.ClauseLaws.{misra-gries-clause}
+use Rattle.vizing.specs.Checks.{simple-admitted}
 use Rattle.simple_graph.specs.Simple.{checkSimple, simple-refused, simple-accepted}
-use Rattle.misra_gries.specs.Call.{Demand3Of, VizingColoring}
 
 -- ---- the whole call
 
@@ -78,17 +77,5 @@ module _ (n : ℕ) (ends lent : List ℕ) where
 
   -- ---- demand 3
 
-  admitted : (r : Report ℕ) (days : ℕ) → r ≡ misraGries n ends lent .report → r ≡ accepted days → Admitted n ends × (length lent ≡ edgeCount ends)
-  admitted r days p e = go (firstRefusal (misraGriesChecks n ends lent)) refl
-    where
-      go : (o : Option ℕ) → firstRefusal (misraGriesChecks n ends lent) ≡ o → Admitted n ends × (length lent ≡ edgeCount ends)
-      go none f = passed-admitted n ends lent f
-      go (some k) f = let q = refuses k f .0 in let z : _≡_ {A = ℕ} 0 1 = cc in absurd (omega arith)
-
-  pub vizing-coloring : (r : Report ℕ) (colors : List ℕ) → r ≡ misraGries n ends lent .report → colors ≡ misraGries n ends lent .colors → VizingColoring n ends lent r colors
-  vizing-coloring r colors p q = record {
-    demand3 = λ a l.
-        let d = demand3 n ends lent a l in
-        record { accepts = rw p (d .accepts); accurate = rw q (d .accurate); first = d .first };
-    admits = λ days e. admitted r days p e;
-  }
+  pub vizing-coloring : (r : Report ℕ) (colors : List ℕ) → Meets r colors → VizingColoring n ends lent r colors
+  vizing-coloring r colors o = rw (o .0, o .1) (misra-gries-clause n ends lent)

@@ -7,5 +7,4 @@ pub mod StepLaws
 pub mod Tally
 pub mod Days
 pub mod Run
-pub mod Call
 pub mod CallLaws

@@ -10,7 +10,7 @@ ghost use Rattle.graph.specs.Color.{daysOf};
 ghost use Rattle.graph.specs.StretchLaws.{Table};
 ghost use Rattle.vizing.specs.MisraGries.{held, misraGries};
 ghost use Rattle.vizing.specs.Demand3.{Admitted};
-ghost use Rattle.misra_gries.specs.Call.{VizingColoring};
+ghost use Rattle.vizing.specs.Clause.{VizingColoring};
 use edge_table::EdgeTable;
 use graph::Checked;
 use graph::Color;

@@ -23,5 +23,7 @@ pub mod FirstEdges
 pub mod Demand3
 pub mod Checks
 pub mod Theorem
+pub mod Clause
+pub mod ClauseLaws
 pub mod Demand3Examples
 pub mod WrongCalls

@@ -5,13 +5,13 @@ use Rattle.misra_gries.proofs.misra_gries_edge_color.Statement.{stateme
 use Rattle.misra_gries.proofs.misra_gries_edge_color.Tie as tie
 
 returns : tie.Need-returns
-returns c = let o = graph-no _ _ _ _ _ (c .before .before .before .check-graph .ensures) (c .before .refusal .given .1) in (o .0, (o .1, vizing-coloring _ _ _ _ _ (o .0) (o .1)))
+returns c = let o = graph-no _ _ _ _ _ (c .before .before .before .check-graph .ensures) (c .before .refusal .given .1) in (o .0, (o .1, vizing-coloring _ _ _ _ _ o))
 
 returns-2 : tie.Need-returns-2
-returns-2 c = let o = length-no _ _ _ _ _ (c .before .before .before .before .before .check-graph .ensures) (c .before .before .before .graph .given .1) (c .if1 .taken) in (o .0, (o .1, vizing-coloring _ _ _ _ _ (o .0) (o .1)))
+returns-2 c = let o = length-no _ _ _ _ _ (c .before .before .before .before .before .check-graph .ensures) (c .before .before .before .graph .given .1) (c .if1 .taken) in (o .0, (o .1, vizing-coloring _ _ _ _ _ o))
 
 returns-3 : tie.Need-returns-3
-returns-3 c = let o = simple-no _ _ _ _ _ (c .before .before .before .before .before .before .before .before .before .check-graph .ensures) (c .before .before .before .before .before .before .before .graph .given .1) (c .before .before .before .before .if1 .left) _ (c .before .before .before .check-simple .ensures) _ (c .before .fault .given .1) in (o .0, (o .1, vizing-coloring _ _ _ _ _ (o .0) (o .1)))
+returns-3 c = let o = simple-no _ _ _ _ _ (c .before .before .before .before .before .before .before .before .before .check-graph .ensures) (c .before .before .before .before .before .before .before .graph .given .1) (c .before .before .before .before .if1 .left) _ (c .before .before .before .check-simple .ensures) _ (c .before .fault .given .1) in (o .0, (o .1, vizing-coloring _ _ _ _ _ o))
 
 color-admitted-requires : tie.Need-color-admitted-requires
 color-admitted-requires c κs =
@@ -25,7 +25,7 @@ returns-4 : tie.Need-returns-4
 returns-4 c =
     let r = c .before .before .color-admitted .ensures in
     let o = colored-yes _ _ _ _ _ (c .before .before .before .before .before .before .before .before .before .before .before .before .before .check-graph .ensures) (c .before .before .before .before .before .before .before .before .before .before .before .graph .given .1) (c .before .before .before .before .before .before .before .before .if1 .left) _ (c .before .before .before .before .before .before .before .check-simple .ensures) _ (c .before .before .before .before .before .simple .given .1) _ _ (r .0) (r .1) in
-    (o .0, (o .1, vizing-coloring _ _ _ _ _ (o .0) (o .1)))
+    (o .0, (o .1, vizing-coloring _ _ _ _ _ o))
 
 pub misra-gries-edge-color-spec : {M : Type 1} → statement M
 misra-gries-edge-color-spec =
