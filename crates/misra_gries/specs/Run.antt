@@ -18,13 +18,14 @@ use Rattle.vizing.specs.Demand3.{Admitted, maxDegree, degree-max, max-degree-bo
 use Rattle.vizing.specs.Step.{Invariant}
 use Rattle.vizing.specs.Run.{run-keeps}
 use Rattle.vizing.specs.Greatest.{greatest-step}
+use Rattle.vizing.specs.Tally.{tally-same, tally-edges, tally-greatest}
+use Rattle.vizing.specs.MisraGries as definition
 use Rattle.edge_table.specs.TableOf.{FitsTable, TableOf, start-table}
 use Rattle.misra_gries.specs.declared.tally.Tally.{Tally}
 use Rattle.misra_gries.specs.Range.{palette}
 use Rattle.misra_gries.specs.Step.{InRange, Ready, Stepped, topColor}
-use Rattle.misra_gries.specs.Tally.{notedOf, Tallied}
-use Rattle.misra_gries.specs.Days.{greatest-blank, days-read}
-use Rattle.graph.specs.ColoredLaws.{color-replicate}
+use Rattle.misra_gries.specs.Tally.{tallyOf, Tallied}
+use Rattle.misra_gries.specs.Days.{days-read}
 use Rattle.edge_table.specs.EdgeTable.{noEdge}
 use Rattle.edge_table.specs.EdgeTableLaws.{getD-same}
 
@@ -32,7 +33,7 @@ pub run-kept : (n : ℕ) (ends : List ℕ) → Admitted n ends → (k : ℕ) →
 unfolding held
 run-kept n ends a = run-keeps ends (edgeCount ends) n (InRange n ends) (a .simple) (a .inside) (a .edges) (palette n ends a)
 
--- After k edges the working list is what the definition holds, and the tally is that of the edges so far.
+-- After k edges the working list and the tally are what the definition holds.
 pub record Running (n : ℕ) (ends starts entries work table marks : List ℕ) (t : Tally) (k : ℕ) : Type 0 where
   pub admitted : Admitted n ends
   pub rows : Table ends n starts entries
@@ -41,8 +42,7 @@ pub record Running (n : ℕ) (ends starts entries work table marks : List ℕ) (
   pub tabled : TableOf ends (edgeCount ends) work table
   pub size : edgeCount ends ≤ length marks
   pub unmarked : (j : ℕ) → getD marks j 0 < k + 1
-  pub edges : t .edges ≡ k
-  pub greatest : t .greatest ≡ greatestColor work
+  pub tally : tallyOf t ≡ heldAfter ends (edgeCount ends) n k .tally
 
 greater : (a b : ℕ) → cond (ltb a b) b a ≡ max a b
 greater a b = by-test (ltb a b) (λ u. simp u (omega (arith, ltb-true a b u))) (λ u. simp u (omega (arith, ltb-false a b u)))
@@ -62,8 +62,7 @@ running-start n ends starts entries marks N a rows size blank e = record {
   tabled = start-table ends (edgeCount ends) 4096 N (fits-table n ends a) (a .edges) e;
   size = size;
   unmarked = λ j. omega (arith, blank j);
-  edges = refl;
-  greatest = sym (greatest-blank (replicate 4096 noColor) (λ j h. color-replicate 4096 j));
+  tally = refl;
 }
 
 -- The same with the lists of the call.
@@ -75,6 +74,13 @@ running-begin n ends starts entries N a rows e =
 module _ (n : ℕ) (ends starts entries work table marks : List ℕ) (t : Tally) (k : ℕ) (running : Running n ends starts entries work table marks t k) where
   now-kept : Invariant ends (edgeCount ends) (InRange n ends) k work
   now-kept = rw (running .list) (run-kept n ends (running .admitted) k (running .bound))
+
+  pub running-edges : t .edges ≡ k
+  running-edges = ap (λ (x : definition.Tally). x .edges) (running .tally) ∙ tally-edges ends (edgeCount ends) n k
+
+  running-greatest : t .greatest ≡ greatestColor work
+  unfolding held
+  running-greatest = ap (λ (x : definition.Tally). x .greatest) (running .tally) ∙ (tally-greatest ends (edgeCount ends) n k ∙ sym (ap greatestColor (running .list)))
 
   pub running-room : edgeCount ends ≤ length work
   running-room = omega (arith, now-kept .size, running .admitted .edges)
@@ -106,8 +112,9 @@ module _ (n : ℕ) (ends starts entries work table marks : List ℕ) (t : Tally)
         tabled = e .tabled;
         size = omega (arith, e .size, running .size);
         unmarked = λ j. omega (arith, e .marked j);
-        edges = ap (λ (x : Tally). x .edges) (s .noted) ∙ ap (λ (i : ℕ). i + 1) (running .edges);
-        greatest = ap (λ (x : Tally). x .greatest) (s .noted) ∙ (greater (t .greatest) (s .color) ∙ (ap (λ (i : ℕ). max i (s .color)) (running .greatest) ∙ (ap (max (greatestColor work)) (e .top) ∙ sym (ap greatestColor (e .list) ∙ g))));
+        tally = rw (add-one k) (tally-same (tallyOf t′) (heldAfter ends m n (suc k) .tally)
+            (ap (λ (x : Tally). x .edges) (s .noted) ∙ rw (running-edges, tally-edges ends m n k) (add-one k))
+            (ap (λ (x : Tally). x .greatest) (s .noted) ∙ (greater (t .greatest) (s .color) ∙ (ap (λ (i : ℕ). max i (s .color)) running-greatest ∙ (ap (max (greatestColor work)) (e .top) ∙ (sym g ∙ ap (λ (l : List ℕ). greatestColor (step ends m n l k)) (running .list)))))));
       }
 
   -- All edges are done: the first m colours are the answer, and `days` comes from the tally.
@@ -118,4 +125,4 @@ module _ (n : ℕ) (ends starts entries work table marks : List ℕ) (t : Tally)
       let i : Invariant ends m (InRange n ends) m work = rw e at now-kept in
       let same : work ≡ held n ends m = running .list ∙ ap (held n ends) e in
       let days = days-read work m (omega (arith, i .size, running .admitted .edges)) (i .rest) (λ j b z. omega (arith, i .done j b, max-degree-bound ends m n, running .admitted .edges)) in
-      (ap (take m) same, rw (running .edges, e, running .greatest, add-one) (sym days ∙ ap (λ (l : List ℕ). daysOf (take m l)) same))
+      (ap (take m) same, rw (running-edges, e, running-greatest, add-one) (sym days ∙ ap (λ (l : List ℕ). daysOf (take m l)) same))

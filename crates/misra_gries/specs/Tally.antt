@@ -1,11 +1,16 @@
--- The tally after one edge more, and after a step that gave it its colour.
+-- The tally that the code keeps, after one edge more and after a step that gave it its colour.
 use mathlib.Core.Path.{_≡_}
 use mathlib.Core.Bool.{cond}
 use mathlib.Core.List.{List}
 use Prim.Native.Nat.{ℕ, _+_}
 use lib.Dec.{ltb}
+use Rattle.vizing.specs.MisraGries as definition
 use Rattle.misra_gries.specs.declared.tally.Tally.{Tally}
 use Rattle.misra_gries.specs.Step.{Stepped}
+
+-- The definition's tally with these two numbers.
+abbrev pub tallyOf : Tally → definition.Tally
+tallyOf t = record { edges = t .edges; greatest = t .greatest }
 
 -- one edge more, of the colour c
 abbrev pub notedOf : Tally → ℕ → Tally

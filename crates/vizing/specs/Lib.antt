@@ -16,6 +16,7 @@ pub mod Palette
 pub mod Step
 pub mod Run
 pub mod Greatest
+pub mod Tally
 -- the first k edges alone
 pub mod LaterEdges
 pub mod FirstEdges

@@ -2,7 +2,7 @@
 use Prim.Native.Nat.{_-_}
 use mathlib.Core.Path.{_≡_, refl, _∙_}
 use lib.ListN.{length}
-use Rattle.misra_gries.specs.Run.{Running, running-ready, running-more}
+use Rattle.misra_gries.specs.Run.{Running, running-edges, running-ready, running-more}
 use Rattle.graph.specs.Edges.{edgeCount}
 use borrow.Author.Needs.{needs}
 use native.Mathlib.Omega.{arith}
@@ -22,7 +22,7 @@ cast-t19 : tie.Need-cast-t19 Inv-loop μ-loop
 cast-t19 c = search needs
 
 step-kept-requires : tie.Need-step-kept-requires Inv-loop μ-loop
-step-kept-requires c κs = let i = c .before .before .before .before .loop .inv .0 in (running-ready _ _ _ _ _ _ _ _ _ i (c .before .before .before .loop-test .taken), omega (arith, i .edges, i .bound, i .admitted .edges))
+step-kept-requires c κs = let i = c .before .before .before .before .loop .inv .0 in (running-ready _ _ _ _ _ _ _ _ _ i (c .before .before .before .loop-test .taken), omega (arith, running-edges _ _ _ _ _ _ _ _ _ i, i .bound, i .admitted .edges))
 
 add-k : tie.Need-add-k Inv-loop μ-loop
 add-k c = search needs
