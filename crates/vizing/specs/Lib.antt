@@ -1,5 +1,6 @@
 -- Misra-Gries edge colouring: definitions, theory, and the claim of demand 3.
 pub mod MisraGries
+pub mod Answers
 pub mod DefinitionLaws
 pub mod Store
 pub mod Simple
