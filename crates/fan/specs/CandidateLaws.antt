@@ -1,13 +1,14 @@
 -- Laws of the candidates: each test and search as the code goes on with it.
-use Prim.Native.Nat.{ℕ, _+_, _≤_, _<_}
+use Prim.Native.Nat.{ℕ, suc, _+_, _≤_, _<_}
 use mathlib.Core.Path.{_≡_, refl, sym, _∙_}
 use mathlib.Core.Logic.{inl, inr}
 use mathlib.Core.List.{List, [], _∷_, _++_}
 use mathlib.Core.Option.{Option, none, some}
 use mathlib.Core.Bool.{Bool, true, false, not}
+use native.Mathlib.Omega.{arith}
 use native.Mathlib.Numerals.{add-one}
 use lib.ListN.{length, getD, take, drop, drop-of-length-le}
-use lib.Seq.{drop-cons, take-suc}
+use lib.Seq.{drop-cons, take-add}
 use lib.Dec.{eqb}
 use borrow.Author.Tests.{eq-eqb, ne-eqb}
 use Rattle.lists.specs.Tests.{by-test}
@@ -15,7 +16,7 @@ use Rattle.lists.specs.Member.{Mem, mem-append}
 use Rattle.graph.specs.Colored.{noColor, colorOf}
 use Rattle.graph.specs.ColoredLaws.{colored-true, uncolored-false}
 use Rattle.edge_table.specs.EdgeTable.{isEmpty}
-use Rattle.fan.specs.Candidates.{firstThat, mayJoin, joinsMarked, Passed}
+use Rattle.fan.specs.Candidates.{firstThat, mayJoin, joinsMarked, placeThat, Passed}
 
 -- ---- the first that passes a test
 
@@ -75,10 +76,35 @@ pub passed-none : (l M : List ℕ) (s : ℕ) (near : List ℕ) → Passed l M s 
 unfolding Passed
 passed-none l M s near k p = absurd p
 
-pub passed-more : (l M : List ℕ) (s : ℕ) (near : List ℕ) (i : ℕ) (may : Bool) → Passed l M s near i → i < length near → may ≡ mayJoin l M s (getD near i 0) → may ≡ false
-    → Passed l M s near (i + 1)
+-- The place, as the code goes on with it.
+module _ (t : ℕ → Bool) (ks : List ℕ) (i o : ℕ) (e : i + placeThat t (drop i ks) ≡ o) where
+  pub place-here : (r : Bool) → i < length ks → r ≡ t (getD ks i 0) → r ≡ true → i ≡ o
+  unfolding placeThat
+  place-here r h p q = let z : i + 0 ≡ o = simp (drop-cons ks i 0 h, sym p ∙ q) at e in omega (arith, z)
+
+  pub place-next : (r : Bool) → i < length ks → r ≡ t (getD ks i 0) → r ≡ false → i + 1 + placeThat t (drop (i + 1) ks) ≡ o
+  unfolding placeThat
+  place-next r h p q =
+      let z : i + suc (placeThat t (drop (suc i) ks)) ≡ o = simp (drop-cons ks i 0 h, sym p ∙ q) at e in
+      rw (add-one i) (omega (arith, z))
+
+  pub place-end : length ks ≤ i → i ≡ o
+  unfolding placeThat
+  place-end h = let z : i + 0 ≡ o = simp (drop-of-length-le ks {i = i} h) at e in omega (arith, z)
+
+-- No number before the place passes.
+before-place : (t : ℕ → Bool) (ks : List ℕ) (k : ℕ) → Mem k (take (placeThat t ks) ks) → t k ≡ false
+unfolding placeThat
+before-place t [] k p = absurd p
+before-place t (j ∷ ks) k p = by-test (t j)
+    (λ u. absurd (simp u at p))
+    (λ u. elim (simp u at p) [ inl z ↦ rw z u | inr z ↦ before-place t ks k z ])
+
+pub passed-skipped : (l M : List ℕ) (s : ℕ) (near : List ℕ) (from r : ℕ) → r ≡ from + placeThat (mayJoin l M s) (drop from near) → Passed l M s near from → Passed l M s near r
 unfolding Passed
-passed-more l M s near i may passed h p e k q = elim (mem-append k (take i near) (getD near i 0 ∷ []) (rw (add-one i, take-suc near i 0 h) at q)) [
-  | inl z ↦ passed k z
-  | inr z ↦ elim z [ inl y ↦ rw y (sym p ∙ e) | inr y ↦ absurd y ]
-]
+passed-skipped l M s near from r e passed k q =
+    let p = placeThat (mayJoin l M s) (drop from near) in
+    elim (mem-append k (take from near) (take p (drop from near)) (rw (e, take-add from p near) at q)) [
+      | inl z ↦ passed k z
+      | inr z ↦ before-place (mayJoin l M s) (drop from near) k z
+    ]

@@ -16,7 +16,8 @@ use Rattle.edge_table.specs.EdgeTable.{optionOf, tableEdge, isEmpty}
 use Rattle.edge_table.specs.declared.EdgeOfColor.{EdgeOfColor}
 use Rattle.edge_table.specs.declared.EdgeOfColor.the-variants.{Edge, Nothing}
 use Rattle.graph.specs.declared.EdgeIndex.{EdgeIndex}
-use Rattle.fan.specs.Front.{Front, front-start, front-next, front-all}
+use Rattle.graph.specs.Table.{over}
+use Rattle.fan.specs.Front.{Front, front-start, front-next, front-all, over-front}
 
 -- From v along p, q, p and so on, at most `fuel` edges.
 unfoldable pub tablePath : List ℕ → List ℕ → ℕ → ℕ → ℕ → ℕ → List ℕ
@@ -81,21 +82,21 @@ path-length ends T (suc n) v p q = elim (some-or-none (tableEdge T v p)) [
 ]
 
 -- The first len edges of the path R stand in out, and it goes on at v along p, q, p with at most n - len edges.
-pub record Following (ends T : List ℕ) (n : ℕ) (R out : List ℕ) (len v p q : ℕ) : Type 0 where
+pub record Following (ends T : List ℕ) (n : ℕ) (R out₀ out : List ℕ) (len v p q : ℕ) : Type 0 where
   pub bound : len ≤ n
-  pub front : Front R out (tablePath ends T (n - len) v p q) len
+  pub front : Front R out₀ out (tablePath ends T (n - len) v p q) len
 
-pub follow-start : (ends T : List ℕ) (n : ℕ) (out : List ℕ) (v p q : ℕ) → n ≤ length out → Following ends T n (tablePath ends T n v p q) out 0 v p q
+pub follow-start : (ends T : List ℕ) (n : ℕ) (out : List ℕ) (v p q : ℕ) → n ≤ length out → Following ends T n (tablePath ends T n v p q) out out 0 v p q
 follow-start ends T n out v p q h = let z : n - 0 ≡ n = omega arith in record {
   bound = omega arith;
   front = rw z (front-start (tablePath ends T n v p q) out (omega (arith, path-length ends T n v p q)));
 }
 
-module _ (ends T : List ℕ) (n : ℕ) (R out : List ℕ) (len v p q : ℕ) (F : Following ends T n R out len v p q) where
-  followed : tablePath ends T (n - len) v p q ≡ [] → (take len out ≡ R) × ((len ≡ length R) × (len ≤ n))
-  followed z = let e = front-all R out len (rw z at (F .front)) in (e .0, (e .1, F .bound))
+module _ (ends T : List ℕ) (n : ℕ) (R out₀ out : List ℕ) (len v p q : ℕ) (F : Following ends T n R out₀ out len v p q) where
+  followed : tablePath ends T (n - len) v p q ≡ [] → (len ≡ length R) × (out ≡ over R out₀)
+  followed z = let e = front-all R out₀ out len (rw z at (F .front)) in (e .1, e .0)
 
-  pub follow-full : n ≤ len → (take len out ≡ R) × ((len ≡ length R) × (len ≤ n))
+  pub follow-full : n ≤ len → (len ≡ length R) × (out ≡ over R out₀)
   unfolding tablePath
   follow-full h = let f : n - len ≡ zero = omega arith in followed (rw f)
 
@@ -103,12 +104,18 @@ module _ (ends T : List ℕ) (n : ℕ) (R out : List ℕ) (len v p q : ℕ) (F :
     abbrev more : n - len ≡ suc (n - (len + 1))
     more = omega arith
 
-    pub follow-none : answer ≡ Nothing → (take len out ≡ R) × ((len ≡ length R) × (len ≤ n))
+    pub follow-none : answer ≡ Nothing → (len ≡ length R) × (out ≡ over R out₀)
     follow-none e = followed (rw more (path-stops ends T (n - (len + 1)) v p q (sym said ∙ ap optionOf e)))
 
-    pub follow-edge : (k : EdgeIndex) (w : ℕ) → answer ≡ Edge k → w ≡ farEnd ends (k .0) v → Following ends T n R (set out len (k .0)) (len + 1) w q p
+    pub follow-edge : (k : EdgeIndex) (w : ℕ) → answer ≡ Edge k → w ≡ farEnd ends (k .0) v → Following ends T n R out₀ (set out len (k .0)) (len + 1) w q p
     follow-edge k w e f = record {
       bound = omega arith;
-      front = front-next R out (tablePath ends T (n - (len + 1)) w q p) len (k .0)
+      front = front-next R out₀ out (tablePath ends T (n - (len + 1)) w q p) len (k .0)
           (rw f (rw (more, path-goes ends T (n - (len + 1)) v p q (k .0) (sym said ∙ ap optionOf e)) at (F .front)));
     }
+
+-- What a caller reads: the path stands at the front of out, which has room for it.
+pub path-written : (ends T : List ℕ) (n v p q : ℕ) (out₀ out : List ℕ) (len : ℕ) → (len ≡ length (tablePath ends T n v p q)) × (out ≡ over (tablePath ends T n v p q) out₀)
+    → (take len out ≡ tablePath ends T n v p q) × ((len ≡ length (tablePath ends T n v p q)) × (len ≤ n))
+path-written ends T n v p q out₀ out len e =
+    (ap (λ (i : ℕ). take i out) (e .0) ∙ over-front (tablePath ends T n v p q) out₀ out (e .1), (e .0, omega (arith, e .0, path-length ends T n v p q)))

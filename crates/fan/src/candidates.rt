@@ -5,10 +5,9 @@ use graph::Color;
 use graph::EdgeIndex;
 use graph::NodeIndex;
 ghost use mathlib.Core.Path.{_≡_};
-ghost use mathlib.Core.Bool.{true};
-ghost use Prim.Native.Nat.{_<_};
-ghost use lib.ListN.{length, getD, set, drop};
-ghost use Rattle.fan.specs.Candidates.{optionOf, firstThat, mayJoin, joinsMarked, Passed};
+ghost use Prim.Native.Nat.{_+_};
+ghost use lib.ListN.{getD, set, drop};
+ghost use Rattle.fan.specs.Candidates.{optionOf, firstThat, mayJoin, joinsMarked, placeThat};
 
 // The candidate that joins next.
 pub enum Joining {
@@ -93,12 +92,9 @@ pub fn first_joining(
     Joining::Nothing
 }
 
-// The first place from this one on whose candidate is coloured and not in the fan yet, or the end.
+// The first place from this one on whose candidate is coloured and not in the fan yet, or the end; from beyond the end, the place itself.
 pub fn skip(work: &[u16], marks: &[u16], stamp: u16, near: &[u16], from: usize) -> usize
-    ensures { λ r. ⌜ (Passed (now (work .entry)) (now (marks .entry)) stamp (now (near .entry)) from
-        → Passed (now (work .entry)) (now (marks .entry)) stamp (now (near .entry)) r) ⌝ }
-    ensures { λ r. ⌜ (r < length (now (near .entry))
-        → mayJoin (now (work .entry)) (now (marks .entry)) stamp (getD (now (near .entry)) r 0) ≡ true) ⌝ }
+    ensures { λ r. ⌜ r ≡ from + placeThat (mayJoin (now (work .entry)) (now (marks .entry)) stamp) (drop from (now (near .entry))) ⌝ }
 {
     let mut i = from;
     while i < near.len() {

@@ -3,10 +3,10 @@ use edge_table::color_of;
 use graph::Color;
 use graph::EdgeIndex;
 ghost use mathlib.Core.Path.{_≡_};
-ghost use Prim.Native.Nat.{_≤_};
-ghost use lib.ListN.{length, take, drop};
 ghost use Rattle.vizing.specs.MisraGries.{swap};
-ghost use Rattle.edge_table.specs.StepRepaint.{exchangedColors, rotatedColors};
+ghost use Rattle.edge_table.specs.StepRepaint.{exchangedColors};
+ghost use Rattle.fan.specs.Front.{putFront};
+ghost use Rattle.fan.specs.NewColors.{shiftedColors};
 
 // The other of c and d, or the colour itself if it is neither.
 fn swapped(c: Color, d: Color, color: Color) -> Color
@@ -23,8 +23,7 @@ fn swapped(c: Color, d: Color, color: Color) -> Color
 
 // The edges' colours with c and d exchanged, to the front of out if it has room for all.
 pub fn swap_colors(work: &[u16], edges: &[u16], c: Color, d: Color, out: &mut [u16])
-    ensures { λ _. ⌜ (length (now (edges .entry)) ≤ length (now (out .entry))
-        → take (length (now (edges .entry))) (now (out .exit)) ≡ exchangedColors (now (work .entry)) (c .0) (d .0) (now (edges .entry))) ⌝ }
+    ensures { λ _. ⌜ now (out .exit) ≡ putFront (exchangedColors (now (work .entry)) (c .0) (d .0) (now (edges .entry))) (now (out .entry)) ⌝ }
 {
     if out.len() < edges.len() {
         return;
@@ -39,8 +38,7 @@ pub fn swap_colors(work: &[u16], edges: &[u16], c: Color, d: Color, out: &mut [u
 
 // For each place of the fan the colour of the next, and for the last place this colour, to the front of out if it has room for all.
 pub fn shift_colors(work: &[u16], fan: &[u16], color: Color, out: &mut [u16])
-    ensures { λ _. ⌜ (1 ≤ length (now (fan .entry)) → length (now (fan .entry)) ≤ length (now (out .entry))
-        → take (length (now (fan .entry))) (now (out .exit)) ≡ rotatedColors (now (work .entry)) (drop 1 (now (fan .entry))) (color .0)) ⌝ }
+    ensures { λ _. ⌜ now (out .exit) ≡ putFront (shiftedColors (now (work .entry)) (now (fan .entry)) (color .0)) (now (out .entry)) ⌝ }
 {
     if fan.len() == 0 {
         return;

@@ -5,8 +5,8 @@ use graph::Color;
 use graph::NodeIndex;
 use graph::far_end;
 ghost use mathlib.Core.Path.{_≡_};
-ghost use Prim.Native.Nat.{_≤_};
-ghost use lib.ListN.{length, take};
+ghost use lib.ListN.{length};
+ghost use Rattle.graph.specs.Table.{over};
 ghost use Rattle.fan.specs.TablePath.{tablePath};
 
 // The path from the node along colours first, second, first and so on, as far as it goes and out has room, to the front of
@@ -19,9 +19,8 @@ pub fn follow(
     second: Color,
     out: &mut [u16],
 ) -> usize
-    ensures { λ r. ⌜ take r (now (out .exit)) ≡ tablePath (now (ends .entry)) (now (table .entry)) (length (now (out .entry))) (node .0) (first .0) (second .0) ⌝ }
     ensures { λ r. ⌜ r ≡ length (tablePath (now (ends .entry)) (now (table .entry)) (length (now (out .entry))) (node .0) (first .0) (second .0)) ⌝ }
-    ensures { λ r. ⌜ r ≤ length (now (out .entry)) ⌝ }
+    ensures { λ _. ⌜ now (out .exit) ≡ over (tablePath (now (ends .entry)) (now (table .entry)) (length (now (out .entry))) (node .0) (first .0) (second .0)) (now (out .entry)) ⌝ }
 {
     let mut end = node;
     let mut color = first;

@@ -21,6 +21,8 @@ use Rattle.edge_table.specs.EdgeTable.{state, repainted, isEmpty, smallestEmpty
 use Rattle.edge_table.specs.TableOf.{TableOf, says-smallest, says-free}
 use Rattle.edge_table.specs.Repaint.{Repaintable, repaint-done}
 use Rattle.edge_table.specs.StepRepaint.{exchangedColors, rotatedColors, exchange-done, step-exchange, step-rotation}
+use Rattle.fan.specs.Front.{putFront}
+use Rattle.fan.specs.NewColors.{exchanged-front}
 use Rattle.fan.specs.TablePath.{tablePath, path-none, path-ended, table-path}
 use Rattle.fan.specs.TablePlaces.{tablePlaces, table-places, places-taken}
 use Rattle.misra_gries.specs.Range.{palette, max-degree-below}
@@ -72,11 +74,11 @@ module _ (ends l T : List ℕ) (n u c d : ℕ) (E : Exchanging ends n l T u c d)
       let p : path ends (edgeCount ends) n l u d c ≡ [] = sym right-path ∙ path-none ends T n u d c (sym e ∙ t) in
       (sym (ap length p), (sym (ap (exchange l c d) p ∙ exchange-none l c d), E .tabled))
 
-  pub path-exchanged : (es out l′ T′ : List ℕ) (len : ℕ) → es ≡ tablePath ends T n u d c → len ≡ length es → take (length es) out ≡ exchangedColors l c d es → state l′ T′ ≡ repainted ends (state l T) es (take len out)
+  pub path-exchanged : (es out₀ out l′ T′ : List ℕ) (len : ℕ) → es ≡ tablePath ends T n u d c → len ≡ length es → len ≤ length out₀ → out ≡ putFront (exchangedColors l c d es) out₀ → state l′ T′ ≡ repainted ends (state l T) es (take len out)
       → (len ≡ length (path ends (edgeCount ends) n l u d c)) × ((l′ ≡ exchange l c d (path ends (edgeCount ends) n l u d c)) × TableOf ends (edgeCount ends) l′ T′)
-  path-exchanged es out l′ T′ len p q r s =
+  path-exchanged es out₀ out l′ T′ len p q h r s =
       let e = p ∙ right-path in
-      let colors : take len out ≡ exchangedColors l c d es = ap (λ (i : ℕ). take i out) q ∙ r in (
+      let colors : take len out ≡ exchangedColors l c d es = ap (λ (i : ℕ). take i out) q ∙ exchanged-front l c d es out₀ out r (omega (arith, q)) in (
         q ∙ ap length e,
         exchange-done ends (edgeCount ends) l T (E .tabled) l′ T′ c d (path ends (edgeCount ends) n l u d c) (E .allowed)
             (s ∙ (ap (repainted ends (state l T) es) colors ∙ ap (λ (ks : List ℕ). repainted ends (state l T) ks (exchangedColors l c d ks)) e)),

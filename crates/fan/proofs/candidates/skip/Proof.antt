@@ -1,16 +1,15 @@
--- `skip` meets its contract. The invariant: if no candidate before the first place may join, none before place i may.
-use Prim.Native.Nat.{_-_}
-use mathlib.Core.Path.{sym, _∙_}
-use native.Mathlib.Omega.{arith}
-use lib.ListN.{length}
+-- `skip` meets its contract. The invariant: the place that the search from i on finds is what the search from the first place finds.
+use Prim.Native.Nat.{_+_, _-_}
+use mathlib.Core.Path.{_≡_}
+use lib.ListN.{length, drop}
 use borrow.Author.Needs.{needs}
-use Rattle.fan.specs.Candidates.{Passed}
-use Rattle.fan.specs.CandidateLaws.{passed-more}
+use Rattle.fan.specs.Candidates.{mayJoin, placeThat}
+use Rattle.fan.specs.CandidateLaws.{place-here, place-next, place-end}
 use Rattle.fan.proofs.candidates.skip.Statement.{statement}
 use Rattle.fan.proofs.candidates.skip.Tie as tie
 
 abbrev Inv-loop : tie.InvT-loop
-Inv-loop work marks stamp near from i₀ i = Passed work marks stamp near from → Passed work marks stamp near i
+Inv-loop work marks stamp near from i₀ i = i + placeThat (mayJoin work marks stamp) (drop i near) ≡ from + placeThat (mayJoin work marks stamp) (drop from near)
 
 abbrev μ-loop : tie.MeasureT-loop
 μ-loop work marks stamp near from i₀ i = length near - i
@@ -21,9 +20,8 @@ skip-spec =
     (tie.spec
     Inv-loop
     μ-loop
-    (λ c p. p)
-    (λ c. search needs) (λ c. search needs) (λ c κs. tt)
-    (λ c. (c .before .before .before .before .loop .inv, λ h. sym (c .before .may-join .ensures) ∙ c .if1 .taken))
+    (λ c. search needs) (λ c. search needs) (λ c. search needs) (λ c κs. tt)
+    (λ c. search (needs, place-here))
     (λ c. search needs) (λ c. search needs)
-    (λ c p. passed-more _ _ _ _ _ _ (c .before .before .before .before .loop .inv p) (c .before .before .before .loop-test .taken) (c .before .may-join .ensures) (c .if1 .left))
-    (λ c. (c .before .loop .inv, λ h. let z : ⊥ = omega arith in absurd z)))
+    (λ c. search (needs, place-next))
+    (λ c. search (needs, place-end)))

@@ -1,19 +1,19 @@
--- `shift_colors` meets its contract: it promises nothing of a fan without a place, or where out is too short.
+-- `shift_colors` meets its contract: of a fan without a place, or where out is too short, nothing is written.
 -- The invariant: the first i colours stand in out, and those of the places from i on are to come.
-use Prim.Native.Nat.{_<_, _+_, _-_}
+use Prim.Native.Nat.{_≤_, _<_, _+_, _-_}
 use mathlib.Core.Path.{_≡_, refl}
 use native.Mathlib.Omega.{arith}
 use lib.ListN.{length, drop}
 use borrow.Author.Needs.{needs}
 use Rattle.fan.specs.Front.{Front}
 use Rattle.edge_table.specs.StepRepaint.{rotatedColors}
-use Rattle.fan.specs.NewColors.{rotated-start, rotated-next, rotated-end}
+use Rattle.fan.specs.NewColors.{shiftedColors, shifted-none, shifted-short, shifted-start, shifted-next, shifted-end}
 use Rattle.fan.proofs.new_colors.shift_colors.Statement.{statement}
 use Rattle.fan.proofs.new_colors.shift_colors.Tie as tie
 
 abbrev Inv-loop : tie.InvT-loop
 Inv-loop work fan color out₀ i₀ out i =
-    (i < length fan) × (length out ≡ length out₀) × Front (rotatedColors work (drop 1 fan) (color .0)) out (rotatedColors work (drop (i + 1) fan) (color .0)) i
+    (i < length fan) × (length fan ≤ length out₀) × (length out ≡ length out₀) × Front (shiftedColors work fan (color .0)) out₀ out (rotatedColors work (drop (i + 1) fan) (color .0)) i
 
 abbrev μ-loop : tie.MeasureT-loop
 μ-loop work fan color out₀ i₀ out i = length fan - i
@@ -24,10 +24,10 @@ shift-colors-spec =
     (tie.spec
     Inv-loop
     μ-loop
-    (λ c h b. let z : ⊥ = omega arith in absurd z)
-    (λ c h b. let z : ⊥ = omega arith in absurd z)
-    (λ c. (omega (arith, c .before .if1 .left), refl, rotated-start _ (c .before .before .before .before .before .args .fan .now) _ _ (omega (arith, c .before .if1 .left)) (c .if2 .left)))
+    (λ c. search (needs, shifted-none))
+    (λ c. search (needs, shifted-short))
+    (λ c. (omega (arith, c .before .if1 .left), search needs, refl, shifted-start _ (c .before .before .before .before .before .args .fan .now) _ _ (omega (arith, c .before .if1 .left)) (c .if2 .left)))
     (λ c. search needs) (λ c. search needs) (λ c. search needs) (λ c. search needs) (λ c κs. tt) (λ c. search needs) (λ c. search needs) (λ c. search needs) (λ c. search needs)
-    (λ c. (search needs, search needs, search (needs, rotated-next)))
+    (λ c. (search needs, search needs, search needs, search (needs, shifted-next)))
     (λ c. search needs) (λ c. search needs) (λ c. search needs)
-    (λ c h b. search (needs, rotated-end)))
+    (λ c. search (needs, shifted-end)))

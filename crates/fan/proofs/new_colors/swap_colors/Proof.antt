@@ -1,19 +1,18 @@
--- `swap_colors` meets its contract: it promises nothing where out is too short.
+-- `swap_colors` meets its contract: where out is too short nothing is written.
 -- The invariant: the first i colours stand in out, and those of the edges from i on are to come.
 use Prim.Native.Nat.{_≤_, _-_}
 use mathlib.Core.Path.{_≡_}
-use native.Mathlib.Omega.{arith}
 use lib.ListN.{length, drop}
 use borrow.Author.Needs.{needs}
 use Rattle.fan.specs.Front.{Front}
 use Rattle.edge_table.specs.StepRepaint.{exchangedColors}
-use Rattle.fan.specs.NewColors.{exchanged-start, exchanged-next, exchanged-end}
+use Rattle.fan.specs.NewColors.{exchanged-short, exchanged-start, exchanged-next, exchanged-end}
 use Rattle.fan.proofs.new_colors.swap_colors.Statement.{statement}
 use Rattle.fan.proofs.new_colors.swap_colors.Tie as tie
 
 abbrev Inv-loop : tie.InvT-loop
 Inv-loop work edges c d out₀ i₀ out i =
-    (i ≤ length edges) × (length out ≡ length out₀) × Front (exchangedColors work (c .0) (d .0) edges) out (exchangedColors work (c .0) (d .0) (drop i edges)) i
+    (length edges ≤ length out₀) × (length out ≡ length out₀) × Front (exchangedColors work (c .0) (d .0) edges) out₀ out (exchangedColors work (c .0) (d .0) (drop i edges)) i
 
 abbrev μ-loop : tie.MeasureT-loop
 μ-loop work edges c d out₀ i₀ out i = length edges - i
@@ -24,9 +23,9 @@ swap-colors-spec =
     (tie.spec
     Inv-loop
     μ-loop
-    (λ c h. let z : ⊥ = omega arith in absurd z)
+    (λ c. search (needs, exchanged-short))
     (λ c. search (needs, exchanged-start))
     (λ c. search needs) (λ c. search needs) (λ c κs. tt) (λ c κs. tt) (λ c. search needs) (λ c. search needs) (λ c. search needs) (λ c. search needs)
     (λ c. (search needs, search needs, search (needs, exchanged-next)))
     (λ c. search needs)
-    (λ c h. search (needs, exchanged-end)))
+    (λ c. search (needs, exchanged-end)))

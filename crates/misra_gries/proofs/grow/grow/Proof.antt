@@ -7,7 +7,7 @@ use lib.ListN.{length}
 use borrow.Author.Needs.{needs}
 use Rattle.graph.specs.Edges.{edgeCount}
 use Rattle.fan.specs.Candidates.{Passed}
-use Rattle.fan.specs.CandidateLaws.{passed-none}
+use Rattle.fan.specs.CandidateLaws.{passed-none, passed-skipped}
 use Rattle.misra_gries.specs.MarkedFanLaws.{Growing, growing-start, growing-few, growing-low, growing-passed, growing-stop, growing-more}
 use Rattle.misra_gries.proofs.grow.grow.Statement.{statement}
 use Rattle.misra_gries.proofs.grow.grow.Tie as tie
@@ -28,7 +28,7 @@ returns c =
     let mark-place = far-place .before .before .before in
     let turn = mark-place .before .before in
     let ready = turn .before .before .before .before .before .before .before .before .pre .0 in
-    let passed = skip-place .skip .ensures .0 (growing-passed _ _ _ _ _ _ _ _ _ ready _ _ _ _ (turn .before .loop .inv .2) _ (mark-place .set-mark .ensures) _ (turn .before .loop .inv .3)) in (
+    let passed = passed-skipped _ _ _ _ _ _ (skip-place .skip .ensures) (growing-passed _ _ _ _ _ _ _ _ _ ready _ _ _ _ (turn .before .loop .inv .2) _ (mark-place .set-mark .ensures) _ (turn .before .loop .inv .3)) in (
       growing-stop _ _ _ _ _ _ _ _ _ ready _ _ _ _ (turn .before .loop .inv .2) _ (mark-place .set-mark .ensures) (turn .loop-test .taken) _ (far-place .far-end .ensures) _
           passed _ (search-place .first-joining .ensures) (c .enum-told .given .1),
       (growing-few _ _ _ _ _ _ _ _ _ ready _ _ _ _ (turn .before .loop .inv .2), growing-low _ _ _ _ _ _ _ _ _ ready _ _ _ _ (turn .before .loop .inv .2) _ (mark-place .set-mark .ensures)),
@@ -42,7 +42,7 @@ loop-again c =
     let mark-place = far-place .before .before .before in
     let turn = mark-place .before .before in
     let ready = turn .before .before .before .before .before .before .before .before .pre .0 in
-    let passed = skip-place .skip .ensures .0 (growing-passed _ _ _ _ _ _ _ _ _ ready _ _ _ _ (turn .before .loop .inv .2) _ (mark-place .set-mark .ensures) _ (turn .before .loop .inv .3)) in (
+    let passed = passed-skipped _ _ _ _ _ _ (skip-place .skip .ensures) (growing-passed _ _ _ _ _ _ _ _ _ ready _ _ _ _ (turn .before .loop .inv .2) _ (mark-place .set-mark .ensures) _ (turn .before .loop .inv .3)) in (
       search needs,
       mark-place .set-mark .kept .0 ∙ turn .before .loop .inv .1,
       growing-more _ _ _ _ _ _ _ _ _ ready _ _ _ _ (turn .before .loop .inv .2) _ (mark-place .set-mark .ensures) (turn .loop-test .taken) _ (far-place .far-end .ensures) _

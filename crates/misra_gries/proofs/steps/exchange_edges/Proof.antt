@@ -6,6 +6,7 @@ use native.Mathlib.Omega.{arith}
 use lib.ListN.{length, drop, replicate}
 use lib.Seq.{length-take-le}
 use borrow.Author.Needs.{needs}
+use Rattle.fan.specs.TablePath.{path-written}
 use Rattle.misra_gries.specs.StepLaws.{Followed, path-followed, path-exchanged}
 use Rattle.misra_gries.proofs.steps.exchange_edges.Statement.{statement}
 use Rattle.misra_gries.proofs.steps.exchange_edges.Tie as tie
@@ -14,7 +15,7 @@ use Rattle.misra_gries.proofs.steps.exchange_edges.Tie as tie
 followed : (f : tie.After-follow)
     → Followed (f .before .before .before .before .before .before .args .ends .now) (f .before .before .before .before .before .before .args .table .now) (f .before .before .before .before .before .before .args .n) (f .before .before .before .before .before .before .args .node .0) (f .before .before .before .before .before .before .args .d .0) (f .before .before .before .before .before .before .args .c .0) 512
     (f .follow .last .1 .1 .1 .1 .1 .0 ++ drop (f .before .before .before .before .before .before .args .n) (replicate 512 0)) (f .follow .result)
-followed f = path-followed _ _ _ _ _ _ (replicate 512 0) (f .follow .last .1 .1 .1 .1 .1 .0) _ (f .before .before .before .before .before .before .pre .nodes) refl (f .follow .kept .1 .1 .1 .1 .1 .0) (f .follow .ensures)
+followed f = path-followed _ _ _ _ _ _ (replicate 512 0) (f .follow .last .1 .1 .1 .1 .1 .0) _ (f .before .before .before .before .before .before .pre .nodes) refl (f .follow .kept .1 .1 .1 .1 .1 .0) (path-written _ _ _ _ _ _ _ _ _ (f .follow .ensures))
 
 -- There is room for the colours.
 room : (s : tie.After-swap-colors) → s .before .before .before .before .before .follow .result ≤ length (s .swap-colors .last .1 .1 .1 .1 .0)
@@ -29,7 +30,7 @@ slice-aggregate-repaint-2 c = sym (length-take-le _ _ (room (c .before .before .
 returns : tie.Need-returns
 returns c =
     let f = followed (c .before .before .before .before .before .before .before .before .before .before .before .before .before .before .before) in
-    path-exchanged _ _ _ _ _ _ _ (c .before .before .before .before .before .before .before .before .before .before .before .before .before .before .before .before .before .before .before .before .before .pre) _ _ _ _ _ (f .path) (f .filled) (c .before .before .before .before .before .before .before .before .before .before .swap-colors .ensures (omega (arith, f .filled, f .short))) (c .before .before .before .before .repaint .ensures)
+    path-exchanged _ _ _ _ _ _ _ (c .before .before .before .before .before .before .before .before .before .before .before .before .before .before .before .before .before .before .before .before .before .pre) _ (replicate 512 0) _ _ _ _ (f .path) (f .filled) (f .short) (c .before .before .before .before .before .before .before .before .before .before .swap-colors .ensures) (c .before .before .before .before .repaint .ensures)
 
 pub exchange-edges-spec : {M : Type 1} → statement M
 exchange-edges-spec =

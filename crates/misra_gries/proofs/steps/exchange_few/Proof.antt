@@ -2,8 +2,9 @@
 use Prim.Native.Nat.{_≤_}
 use mathlib.Core.Path.{refl, sym}
 use native.Mathlib.Omega.{arith}
-use lib.ListN.{length}
+use lib.ListN.{length, replicate}
 use lib.Seq.{length-take-le}
+use Rattle.fan.specs.TablePath.{path-written}
 use Rattle.misra_gries.specs.StepLaws.{Followed, path-few, path-exchanged}
 use Rattle.misra_gries.proofs.steps.exchange_few.Statement.{statement}
 use Rattle.misra_gries.proofs.steps.exchange_few.Tie as tie
@@ -11,7 +12,7 @@ use Rattle.misra_gries.proofs.steps.exchange_few.Tie as tie
 -- What `follow` leaves in the array of edges.
 followed : (e : tie.Else2)
     → Followed (e .before .before .before .before .before .before .before .before .before .args .ends .now) (e .before .before .before .before .before .before .before .before .before .args .table .now) (e .before .before .before .before .before .before .before .before .before .args .n) (e .before .before .before .before .before .before .before .before .before .args .node .0) (e .before .before .before .before .before .before .before .before .before .args .d .0) (e .before .before .before .before .before .before .before .before .before .args .c .0) 32 (e .before .before .follow .last .1 .1 .1 .1 .1 .0) (e .before .before .follow .result)
-followed e = path-few _ _ _ _ _ _ 32 _ _ (e .before .before .before .before .before .if1 .left) (e .if2 .left) (e .before .before .follow .kept .1 .1 .1 .1 .1 .0) (e .before .before .follow .ensures)
+followed e = path-few _ _ _ _ _ _ 32 _ _ (e .before .before .before .before .before .if1 .left) (e .if2 .left) (e .before .before .follow .kept .1 .1 .1 .1 .1 .0) (path-written _ _ _ _ _ _ _ _ _ (e .before .before .follow .ensures))
 
 -- There is room for the colours.
 room : (s : tie.After-swap-colors) → s .before .before .before .before .before .before .follow .result ≤ length (s .swap-colors .last .1 .1 .1 .1 .0)
@@ -20,7 +21,7 @@ room s = omega (arith, s .swap-colors .kept .1 .1 .1 .1 .0, followed (s .before 
 returns-3 : tie.Need-returns-3
 returns-3 c =
     let f = followed (c .before .before .before .before .before .before .before .before .before .before .before .before .before .before) in
-    path-exchanged _ _ _ _ _ _ _ (c .before .before .before .before .before .before .before .before .before .before .before .before .before .before .before .before .before .before .before .before .before .before .before .pre) _ _ _ _ _ (f .path) (f .filled) (c .before .before .before .before .before .before .before .before .before .before .swap-colors .ensures (omega (arith, f .filled, f .short))) (c .before .before .before .before .repaint .ensures)
+    path-exchanged _ _ _ _ _ _ _ (c .before .before .before .before .before .before .before .before .before .before .before .before .before .before .before .before .before .before .before .before .before .before .before .pre) _ (replicate 32 0) _ _ _ _ (f .path) (f .filled) (f .short) (c .before .before .before .before .before .before .before .before .before .before .swap-colors .ensures) (c .before .before .before .before .repaint .ensures)
 
 pub exchange-few-spec : {M : Type 1} → statement M
 exchange-few-spec =
