@@ -8,10 +8,8 @@ mod update;
 pub use lookup::edge_of_color;
 pub use lookup::is_free;
 pub use lookup::smallest_free;
-pub use update::color;
 pub use update::color_of;
 pub use update::repaint;
-pub use update::uncolor;
 
 // The table's sizes: a row for each colour, in it a place for each node, so that the few colours of a sparse graph stand close together.
 // A simple graph of so many nodes has no degree of so many colours, so one is always free.

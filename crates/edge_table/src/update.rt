@@ -58,7 +58,7 @@ fn set_color(work: &mut [u16], edge: EdgeIndex, color: Color)
 }
 
 // The edge loses its colour. Without one there is nothing to clear: none has no place in the table.
-pub fn uncolor(ends: &[u16], work: &mut [u16], table: &mut [u16], edge: EdgeIndex)
+fn uncolor(ends: &[u16], work: &mut [u16], table: &mut [u16], edge: EdgeIndex)
     ensures { λ _. ⌜ state (now (work .exit)) (now (table .exit))
         ≡ uncolored (now (ends .entry)) (state (now (work .entry)) (now (table .entry))) (edge .0) ⌝ }
 {
@@ -68,7 +68,7 @@ pub fn uncolor(ends: &[u16], work: &mut [u16], table: &mut [u16], edge: EdgeInde
 }
 
 // The edge, which has no colour, takes this one.
-pub fn color(ends: &[u16], work: &mut [u16], table: &mut [u16], edge: EdgeIndex, color: Color)
+fn color(ends: &[u16], work: &mut [u16], table: &mut [u16], edge: EdgeIndex, color: Color)
     ensures { λ _. ⌜ state (now (work .exit)) (now (table .exit))
         ≡ colored (now (ends .entry)) (state (now (work .entry)) (now (table .entry))) (edge .0) (color .0) ⌝ }
 {

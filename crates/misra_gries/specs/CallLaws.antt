@@ -1,6 +1,6 @@
 -- Laws of the call: one for each answer, and demand 3.
 use Prim.Native.Nat.{ℕ}
-use mathlib.Core.Path.{_≡_, sym, _∙_}
+use mathlib.Core.Path.{_≡_, sym, ap, _∙_}
 use mathlib.Core.List.{List, _∷_}
 use mathlib.Core.Bool.{true, false, not}
 use mathlib.Core.Option.{some}
@@ -69,11 +69,11 @@ module _ (n : ℕ) (ends lent : List ℕ) where
           pub simple-yes : Admitted n ends
           simple-yes = simple-admitted n ends graph-yes (simple-accepted n ends s f i h)
 
-          pub colored-yes : (r : Report ℕ) (colors : List ℕ) → r ≡ accepted (daysOf (take (edgeCount ends) (held n ends (edgeCount ends)))) → colors ≡ take (edgeCount ends) (held n ends (edgeCount ends)) → Meets r colors
+          pub colored-yes : (days : ℕ) (colors : List ℕ) → days ≡ daysOf (take (edgeCount ends) (held n ends (edgeCount ends))) → colors ≡ take (edgeCount ends) (held n ends (edgeCount ends)) → Meets (accepted days) colors
           unfolding misraGries colored
-          colored-yes r colors a d =
+          colored-yes days colors a d =
               let o = after-length ∙ simple-accepted n ends s f i h in
-              (a ∙ answered-accepted _ _ o, d ∙ written-accepted _ _ _ o)
+              (ap accepted a ∙ answered-accepted _ _ o, d ∙ written-accepted _ _ _ o)
 
   -- ---- demand 3
 

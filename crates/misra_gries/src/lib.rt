@@ -4,7 +4,7 @@ ghost use mathlib.Core.Bool.{cond};
 ghost use Prim.Native.Nat.{_+_, _≤_};
 ghost use lib.Dec.{eqb};
 ghost use lib.ListN.{length, take};
-ghost use Rattle.graph.specs.Report.{accepted, reportOfColoring};
+ghost use Rattle.graph.specs.Report.{reportOfColoring};
 ghost use Rattle.graph.specs.Edges.{edgeCount};
 ghost use Rattle.graph.specs.Color.{daysOf};
 ghost use Rattle.graph.specs.StretchLaws.{Table};
@@ -38,18 +38,18 @@ fn days_of_tally(tally: Tally) -> usize
     tally.greatest as usize + 1
 }
 
-// The run on an admitted list, its colours copied out.
+// The run on an admitted list, its colours copied out. The answer is how many days they take.
 fn color_simple(
     n: usize,
     ends: &[u16],
     starts: &[u16],
     entries: &[u16],
     colors: &mut [u16],
-) -> Coloring
+) -> usize
     requires { ⌜ Admitted n (now ends) ⌝ }
     requires { ⌜ Table (now ends) n (now starts) (now entries) ⌝ }
     requires { ⌜ length (now colors) ≡ edgeCount (now ends) ⌝ }
-    ensures { λ r. ⌜ reportOfColoring r ≡ accepted (daysOf (take (edgeCount (now (ends .entry))) (held n (now (ends .entry)) (edgeCount (now (ends .entry)))))) ⌝ }
+    ensures { λ r. ⌜ r ≡ daysOf (take (edgeCount (now (ends .entry))) (held n (now (ends .entry)) (edgeCount (now (ends .entry))))) ⌝ }
     ensures { λ _. ⌜ now (colors .exit) ≡ take (edgeCount (now (ends .entry))) (held n (now (ends .entry)) (edgeCount (now (ends .entry)))) ⌝ }
 {
     let mut work = [Color::NONE; 4096];
@@ -58,15 +58,14 @@ fn color_simple(
     let tally = run(n, ends, starts, entries, &mut work, &mut table, &mut marks);
     let m = ends.len() / 2;
     copy_colors(&work[..m], colors);
-    let days = days_of_tally(tally);
-    Coloring::Accepted { days }
+    days_of_tally(tally)
 }
 
 // The same, the incidence table made first.
-fn color_admitted(n: usize, ends: &[u16], colors: &mut [u16]) -> Coloring
+fn color_admitted(n: usize, ends: &[u16], colors: &mut [u16]) -> usize
     requires { ⌜ Admitted n (now ends) ⌝ }
     requires { ⌜ length (now colors) ≡ edgeCount (now ends) ⌝ }
-    ensures { λ r. ⌜ reportOfColoring r ≡ accepted (daysOf (take (edgeCount (now (ends .entry))) (held n (now (ends .entry)) (edgeCount (now (ends .entry)))))) ⌝ }
+    ensures { λ r. ⌜ r ≡ daysOf (take (edgeCount (now (ends .entry))) (held n (now (ends .entry)) (edgeCount (now (ends .entry))))) ⌝ }
     ensures { λ _. ⌜ now (colors .exit) ≡ take (edgeCount (now (ends .entry))) (held n (now (ends .entry)) (edgeCount (now (ends .entry)))) ⌝ }
 {
     let mut starts = [0u16; 513];
@@ -93,7 +92,10 @@ pub fn misra_gries_edge_color(n: usize, ends: &[u16], colors: &mut [u16]) -> Col
                 Checked::Refused(fault) => {
                     return Coloring::Refused(fault);
                 }
-                Checked::Accepted(simple) => color_admitted(n, ends, colors),
+                Checked::Accepted(simple) => {
+                    let days = color_admitted(n, ends, colors);
+                    Coloring::Accepted { days }
+                }
             }
         }
     }

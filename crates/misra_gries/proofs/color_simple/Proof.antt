@@ -1,10 +1,9 @@
 -- `color_simple` meets its contract: the run's list and tally, read off.
-use mathlib.Core.Path.{refl, sym, ap, _∙_}
+use mathlib.Core.Path.{refl, sym, _∙_}
 use Prim.Native.Nat.{ℕ}
 use lib.ListN.{length-replicate}
 use lib.Seq.{length-take-le}
 use Rattle.lists.specs.Parts.{copied-same}
-use Rattle.graph.specs.Report.{accepted}
 use Rattle.misra_gries.specs.Run.{running-begin, running-room, running-done}
 use native.Mathlib.Omega.{arith}
 use Rattle.misra_gries.proofs.color_simple.Statement.{statement}
@@ -41,7 +40,7 @@ returns : tie.Need-returns
 returns c =
     let r = c .before .before .before .before .before .before .before .before .before .run .ensures in
     let d = running-done _ _ _ _ _ _ _ _ _ r (omega arith) in
-    (ap accepted (c .days-of-tally .ensures ∙ d .1), c .before .before .before .copy-colors .ensures ∙ (copied-same _ _ (c .before .before .before .before .before .before .before .before .before .before .before .before .before .before .before .before .before .pre .1 .1 ∙ sym (length-take-le _ _ (running-room _ _ _ _ _ _ _ _ _ r))) ∙ d .0))
+    (c .days-of-tally .ensures ∙ d .1, c .before .before .before .copy-colors .ensures ∙ (copied-same _ _ (c .before .before .before .before .before .before .before .before .before .before .before .before .before .before .before .before .before .pre .1 .1 ∙ sym (length-take-le _ _ (running-room _ _ _ _ _ _ _ _ _ r))) ∙ d .0))
 
 pub color-simple-spec : {M : Type 1} → statement M
 color-simple-spec =
