@@ -15,7 +15,7 @@ use Rattle.graph.specs.Edges.{edgeCount, firstEnd, secondEnd, farEnd}
 use Rattle.graph.specs.EdgeLaws.{At, far-first, far-second}
 use Rattle.graph.specs.Colored.{noColor}
 use Rattle.vizing.specs.Demand3.{Admitted, maxDegree, max-degree-bound}
-use Rattle.misra_gries.specs.Call.{VizingColoring}
+use Rattle.vizing.specs.Clause.{VizingColoring}
 use Rattle.greedy.specs.Call.{PrecoloringKept, ProperNodeColoring, ProperEdgeColoring}
 use Rattle.two_color.specs.Odd.{isOdd}
 use Rattle.two_color.specs.Walk.{Walk, stay, along, OddClosedWalk}

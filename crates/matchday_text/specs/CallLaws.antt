@@ -17,7 +17,7 @@ use Rattle.graph.specs.Colored.{noColor}
 use Rattle.graph.specs.declared.Refusal.{Refusal}
 use Rattle.graph.specs.declared.Coloring.{Coloring}
 use Rattle.graph.specs.declared.Coloring.the-variants as O
-use Rattle.misra_gries.specs.Call.{VizingColoring}
+use Rattle.vizing.specs.Clause.{VizingColoring}
 use Rattle.vizing.specs.MisraGries.{misraGries, misraGriesChecks}
 use Rattle.vizing.specs.DefinitionLaws.{some-or-none}
 use Rattle.matchday_text.specs.Text.{daysText, refusedText, reportText, outcomeText, coloredText}
