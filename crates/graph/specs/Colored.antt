@@ -6,10 +6,7 @@ use lib.Dec.{eqb}
 use lib.ListN.{getD}
 use Rattle.graph.specs.Edges.{keep}
 use Rattle.graph.specs.Color.{smallestFree}
-
--- "65,535 means none, in presets and in working lists"
-abbrev pub noColor : ℕ
-noColor = 65535
+pub use Rattle.graph.specs.Color.{noColor}
 
 -- The colour at place k: that of node k or of edge k. Beyond the list there is none.
 unfoldable pub colorOf : List ℕ → ℕ → ℕ

@@ -2,7 +2,9 @@
 ghost use mathlib.Core.Path.{_≡_};
 ghost use Rattle.lists.specs.Parts.{copiedOver};
 ghost use Rattle.graph.specs.Color.{daysOf};
+use crate::Color;
 
+// One more than the greatest colour. What has no colour adds no day; a choice without a branch, so that the compiler can take many at once.
 pub fn days_of(colors: &[u16]) -> usize
     ensures { λ r. ⌜ r ≡ daysOf (now (colors .entry)) ⌝ }
 {
@@ -10,12 +12,13 @@ pub fn days_of(colors: &[u16]) -> usize
     let mut i = colors.len();
     while 0 < i {
         i -= 1;
-        let c = colors[i] as usize;
-        if days <= c {
-            days = c + 1;
+        let c = colors[i];
+        let day = if c == Color::NONE { 0 } else { c + 1 };
+        if days < day {
+            days = day;
         }
     }
-    days
+    days as usize
 }
 
 // Copies from the front as many colours as both slices have.

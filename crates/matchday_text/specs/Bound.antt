@@ -94,7 +94,7 @@ days-bound cs b h = go (daysOf cs) refl
   where
     go : (d : ℕ) → daysOf cs ≡ d → d ≤ b
     go zero e = omega arith
-    go (suc d) e = h d (last-day cs d e)
+    go (suc d) e = h d (last-day cs d e .0)
 
 -- ---- the text of a call
 

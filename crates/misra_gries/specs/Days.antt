@@ -10,7 +10,7 @@ use lib.Seq.{length-take-le}
 use lib.Dec.{eqb, ltb}
 use borrow.Author.Tests.{lt-ltb, le-ltb, ltb-true, ltb-false, eq-eqb, ne-eqb}
 use Rattle.lists.specs.Tests.{by-test}
-use Rattle.graph.specs.Color.{daysOf}
+use Rattle.graph.specs.Color.{daysOf, days-empty, days-colored}
 use Rattle.graph.specs.Colored.{noColor, colorOf}
 use Rattle.vizing.specs.MisraGries.{greatestColor}
 use Rattle.graph.specs.ColoredLaws.{color-take}
@@ -47,33 +47,24 @@ greatest-front l zero b = greatest-blank l b ∙ sym greatest-none
 greatest-front [] (suc m) b = refl
 greatest-front (c ∷ cs) (suc m) b = greatest-cons c cs (take m cs) (greatest-front cs m (λ j h. b (suc j) (omega arith)))
 
--- Days of one colour more.
-days-cons : (c : ℕ) (cs : List ℕ) → daysOf (c ∷ cs) ≡ cond (ltb c (daysOf cs)) (daysOf cs) (suc c)
-unfolding daysOf
-days-cons c cs = refl
-
-days-none : daysOf [] ≡ 0
-unfolding daysOf
-days-none = refl
-
 -- Of coloured places only, one at least.
 pub days-greatest : (c : ℕ) (cs : List ℕ) → ((j : ℕ) → j < length (c ∷ cs) → colorOf (c ∷ cs) j ≢ noColor) → daysOf (c ∷ cs) ≡ suc (greatestColor (c ∷ cs))
 unfolding colorOf
 days-greatest c [] n =
-    days-cons c [] ∙ (by-test (ltb c (daysOf [])) (λ t. absurd (omega (arith, ltb-true c (daysOf []) t, days-none))) (λ t. simp t (ap suc (last (n 0 (omega arith))))))
+    days-colored c [] (n 0 (omega arith)) ∙ (by-test (ltb c (daysOf [])) (λ t. absurd (omega (arith, ltb-true c (daysOf []) t, days-empty))) (λ t. simp t (ap suc (last (n 0 (omega arith))))))
   where
     last : c ≢ noColor → c ≡ greatestColor (c ∷ [])
     last h = sym (greatest-colored c [] h ∙ by-test (ltb (greatestColor []) c) (λ t. simp t) (λ t. simp t (omega (arith, ltb-false (greatestColor []) c t, greatest-none))))
 days-greatest c (x ∷ xs) n =
     let rest = days-greatest x xs (λ j h. n (suc j) (omega arith)) in
     let g = greatest-colored c (x ∷ xs) (n 0 (omega arith)) in
-    days-cons c (x ∷ xs) ∙ (by-test (ltb c (daysOf (x ∷ xs)))
+    days-colored c (x ∷ xs) (n 0 (omega arith)) ∙ (by-test (ltb c (daysOf (x ∷ xs)))
     (λ t. simp t (rest ∙ ap suc (sym (g ∙ ap (λ (b : Bool). cond b c (greatestColor (x ∷ xs))) (le-ltb (greatestColor (x ∷ xs)) c (omega (arith, ltb-true c (daysOf (x ∷ xs)) t)))))))
     (λ t. simp t (ap suc (sym (g ∙ by-test (ltb (greatestColor (x ∷ xs)) c) (λ u. simp u) (λ u. simp u (omega (arith, ltb-false c (daysOf (x ∷ xs)) t, ltb-false (greatestColor (x ∷ xs)) c u))))))))
 
 -- Days of the first m colours, the others being uncoloured, from m and the greatest colour alone.
 pub days-read : (l : List ℕ) (m : ℕ) → m ≤ length l → Blank l m → ((j : ℕ) → j < m → colorOf l j ≢ noColor) → daysOf (take m l) ≡ cond (eqb m 0) 0 (suc (greatestColor l))
-days-read l zero h b n = days-none
+days-read l zero h b n = days-empty
 days-read [] (suc m) h b n = absurd (omega arith)
 days-read (c ∷ cs) (suc m) h b n =
     rw (ne-eqb (suc m) 0 (λ e. omega arith)) (days-greatest c (take m cs) colored ∙ ap suc (sym (greatest-front (c ∷ cs) (suc m) b)))
