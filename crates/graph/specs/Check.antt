@@ -37,7 +37,7 @@ graphChecks n ends =
 
 -- "5 unless" a slice has this length.
 abbrev pub lengthCheck : ℕ → ℕ → Check
-lengthCheck length wanted = not (eqb length wanted) gives 5
+lengthCheck given wanted = not (eqb given wanted) gives 5
 
 -- The graph checks report n and m.
 unfoldable pub checkGraph : ℕ → List ℕ → Report (ℕ × ℕ)
