@@ -16,7 +16,7 @@ firstEnd ends k = getD ends (2 * k) 0
 unfoldable pub secondEnd : List ℕ → ℕ → ℕ
 secondEnd ends k = getD ends (2 * k + 1) 0
 
--- "A loop has equal ends."
+-- "A loop has equal ends"
 unfoldable pub isLoop : List ℕ → ℕ → Bool
 isLoop ends k = eqb (firstEnd ends k) (secondEnd ends k)
 
@@ -29,7 +29,7 @@ abbrev pub keep : Bool → ℕ → List ℕ → List ℕ
 keep true k ks = k ∷ ks
 keep false k ks = ks
 
--- Edge k stands among the second ends at v: "a loop stands once, in the first group".
+-- Edge k stands among the second ends at v: "A loop stands once, in the first group".
 unfoldable pub secondAt : List ℕ → ℕ → ℕ → Bool
 secondAt ends k v = eqb (secondEnd ends k) v && not (isLoop ends k)
 

@@ -37,12 +37,12 @@ abbrev pub reportOfChecked : Checked → Report (ℕ × ℕ)
 reportOfChecked (C.Accepted g) = accepted (g .nodes, g .edges)
 reportOfChecked (C.Refused r) = refused (number r)
 
--- "Incidence reports the total."
+-- "Incidence reports the total"
 abbrev pub reportOfIncidence : IncidenceAnswer → Report ℕ
 reportOfIncidence (I.Accepted total) = accepted total
 reportOfIncidence (I.Refused r) = refused (number r)
 
--- "A colouring that is accepted reports `days`."
+-- "A colouring that is accepted reports `days`"
 abbrev pub reportOfColoring : Coloring → Report ℕ
 reportOfColoring (O.Accepted days) = accepted days
 reportOfColoring (O.Refused r) = refused (number r)
