@@ -46,7 +46,7 @@ impl<'a> EdgeWalk<'a> {
     }
 
     // What stands at the walk's place.
-    pub fn next(self) -> WalkStep
+    pub fn peek(self) -> WalkStep
         ensures { λ r. ⌜ r ≡ stepAt (now (self .entry .entries)) (self .entry .at) ⌝ }
     {
         step_at(self.entries, self.at)
@@ -67,5 +67,5 @@ impl<'a> EdgeWalk<'a> {
 pub fn edge_at(starts: &[u16], entries: &[u16], node: NodeIndex, at: usize) -> WalkStep
     ensures { λ r. ⌜ r ≡ stepAt (stretch (now (starts .entry)) (now (entries .entry)) (node .0)) at ⌝ }
 {
-    EdgeWalk::of_node(starts, entries, node).moved(at).next()
+    EdgeWalk::of_node(starts, entries, node).moved(at).peek()
 }

@@ -1,5 +1,5 @@
--- `walk::edge_at` meets its contract: a walk of its MIR, by hand. The walk that `of_node` makes is held in a local, moved, and read by `next`.
--- The walk lives at the entries' lifetime: `moved` and `next` take that one token, and the other waits. In a local MIR erases the lifetime's name.
+-- `walk::edge_at` meets its contract: a walk of its MIR, by hand. The walk that `of_node` makes is held in a local, moved, and read by `peek`.
+-- The walk lives at the entries' lifetime: `moved` and `peek` take that one token, and the other waits. In a local MIR erases the lifetime's name.
 use mathlib.Core.Path.{_≡_, refl, ap, _∙_}
 use Prim.Native.Nat.{ℕ, _+_, _*_, _<_, _^_}
 use mathlib.Core.List.{List, [], _∷_}
@@ -53,10 +53,10 @@ use Rattle.graph.proofs.walk.EdgeWalk.moved as moved
 use Rattle.graph.proofs.walk.EdgeWalk.moved.Symbol as moved-def
 use Rattle.graph.proofs.walk.EdgeWalk.moved.Symbol.{name as #moved}
 use Rattle.graph.proofs.walk.EdgeWalk.moved.Met as moved-thm
-use Rattle.graph.proofs.walk.EdgeWalk.next as next
-use Rattle.graph.proofs.walk.EdgeWalk.next.Symbol as next-def
-use Rattle.graph.proofs.walk.EdgeWalk.next.Symbol.{name as #next}
-use Rattle.graph.proofs.walk.EdgeWalk.next.Met as next-thm
+use Rattle.graph.proofs.walk.EdgeWalk.peek as peek
+use Rattle.graph.proofs.walk.EdgeWalk.peek.Symbol as peek-def
+use Rattle.graph.proofs.walk.EdgeWalk.peek.Symbol.{name as #peek}
+use Rattle.graph.proofs.walk.EdgeWalk.peek.Met as peek-thm
 use Rattle.graph.proofs.walk.edge_at.Key.{name as #edge-at}
 use Rattle.graph.proofs.walk.edge_at as edge-at
 use Rattle.graph.proofs.walk.edge_at.Statement as stated
@@ -73,8 +73,8 @@ module _ {M : Type 1} (𝓤 : URA M) (H : Heap 𝓤) (A : Atoms 𝓤) (W : Given
   abbrev Moved : Contract 𝓤
   Moved = contractOf 𝓤 H A moved.ended (moved.clauses 𝓤 H A mem run)
 
-  abbrev Next : Contract 𝓤
-  Next = contractOf 𝓤 H A next.ended (next.clauses 𝓤 H A mem run)
+  abbrev Peek : Contract 𝓤
+  Peek = contractOf 𝓤 H A peek.ended (peek.clauses 𝓤 H A mem run)
 
   module _ (κ κ′ : Lft) (q q′ : Share) (s e : RefT (List ℕ)) (n : NodeIndex) (m : ℕ) (fits : m < 2 ^ 64) where
     abbrev κs : Lfts 2
@@ -89,7 +89,7 @@ module _ {M : Type 1} (𝓤 : URA M) (H : Heap 𝓤) (A : Atoms 𝓤) (W : Given
 
     -- the entries' token
     abbrev Alive : SProp 𝓤
-    Alive = alive 𝓤 H A next.signature (κ′, tt) (q′, tt)
+    Alive = alive 𝓤 H A peek.signature (κ′, tt) (q′, tt)
 
     -- the walk's type, and its lifetime as a local of the body has it
     abbrev B : RattleType
@@ -98,15 +98,15 @@ module _ {M : Type 1} (𝓤 : URA M) (H : Heap 𝓤) (A : Atoms 𝓤) (W : Given
     abbrev αᵉ : NamedLft
     αᵉ = record { mir = erased; lft = κ′ }
 
-    -- the same of each call; of `moved` and `next`, at a walk r with the machine value u
+    -- the same of each call; of `moved` and `peek`, at a walk r with the machine value u
     abbrev to-of-node : OfNode .Ghost
     to-of-node = ((κs, (q, (q′, tt)), tt, (s, (e, (n, tt))), (slice-vals s, (slice-vals e, (N′.lowered n ∷ [], tt)))), tt)
 
     abbrev to-moved : EdgeWalk → Val → Moved .Ghost
     to-moved r u = (((κ′, tt), (q′, tt), tt, (r, (m, tt)), (u ∷ [], (vint w64 m ∷ [], tt))), tt)
 
-    abbrev to-next : EdgeWalk → Val → Next .Ghost
-    to-next r u = (((κ′, tt), (q′, tt), tt, (r, tt), (u ∷ [], tt)), tt)
+    abbrev to-peek : EdgeWalk → Val → Peek .Ghost
+    to-peek r u = (((κ′, tt), (q′, tt), tt, (r, tt), (u ∷ [], tt)), tt)
 
     -- what `of_node` ensures beyond the walk's contents
     abbrev Unused : EdgeWalk → SProp 𝓤
@@ -127,12 +127,12 @@ module _ {M : Type 1} (𝓤 : URA M) (H : Heap 𝓤) (A : Atoms 𝓤) (W : Given
         qed W (‵ (B .own r (u ∷ [])) ∷ raw Alive ∷ []) ∵ nothing ! $ owned ! usize (Is usize) (uint-makes 𝓤 H A W w64) m _ (refl, fits) $ fjoin ! $
         move ! (1 ∷ 0 ∷ []) $ fjoin ! $ move ! (1 ∷ 0 ∷ []) $ join ! $ frame ! $ done !
 
-    next-asks : (r : EdgeWalk) (u : Val) → ent 𝓤 (sep 𝓤 (sem 𝓤 H A (B .own r (u ∷ []))) Alive) (Next .pre (to-next r u))
-    next-asks r u =
+    peek-asks : (r : EdgeWalk) (u : Val) → ent 𝓤 (sep 𝓤 (sem 𝓤 H A (B .own r (u ∷ []))) Alive) (Peek .pre (to-peek r u))
+    peek-asks r u =
         qed W (‵ (B .own r (u ∷ [])) ∷ raw Alive ∷ []) ∵ nothing ! $ move ! (1 ∷ 0 ∷ []) $ fjoin ! $ move ! (1 ∷ 0 ∷ []) $ join ! $ frame ! $ done !
 
     module _ (C : Calls 𝓤 H) (Λ : Loops 𝓤 H) (fm : FmC 𝓤 H (W .laws) C) (known-of-node : Triple 𝓤 (C #of-node) OfNode)
-        (known-moved : Triple 𝓤 (C #moved) Moved) (known-next : Triple 𝓤 (C #next) Next) where
+        (known-moved : Triple 𝓤 (C #moved) Moved) (known-peek : Triple 𝓤 (C #peek) Peek) where
       walk : Is (ShrSlice (named 0) κ u16) s (slice-vals s) → Is (ShrSlice (named 1) κ′ u16) e (slice-vals e) → Is N.the-row n (N′.lowered n ∷ [])
           → ent 𝓤 Entry (WpFn 𝓤 H C Λ code.function (contractOf 𝓤 H A edge-at.ended c .args y) (contractOf 𝓤 H A edge-at.ended c .post y))
       walk is-s is-e is-n =
@@ -157,8 +157,8 @@ module _ {M : Type 1} (𝓤 : URA M) (H : Heap 𝓤) (A : Atoms 𝓤) (W : Given
           (and-then ! (read-local ! 2 refl) (and-then ! (read-local ! 6 refl) (no-more !))) (λ u′ r′ same is′.
           -- [what the moved walk owns; the entries' token; the starts' token; _6; …; room for _5; …]
           set-local ! 5 refl (LL.lawful (T.the-type αᵉ) (T′.the-laws αᵉ) 𝓤 H A W .typed r′ _ is′ .0) $
-          use2 W (raw (Next .pre (to-next r′ u′))) (next-asks r′ u′) $
-          called ! fm next.ended (next.clauses 𝓤 H A mem run) known-next (to-next r′ u′)
+          use2 W (raw (Peek .pre (to-peek r′ u′))) (peek-asks r′ u′) $
+          called ! fm peek.ended (peek.clauses 𝓤 H A mem run) known-peek (to-peek r′ u′)
           (λ (t : WalkStep). t ≡ stepAt (now (r′ .entries)) (r′ .at)) (λ t ws. id⊢ 𝓤 _)
           (and-then ! (read-local ! 4 refl) (no-more !)) (λ u″ t found is″.
           -- [what the result owns; the entries' token; the starts' token; _6; …; …; room for _0; …]
@@ -173,13 +173,13 @@ module _ {M : Type 1} (𝓤 : URA M) (H : Heap 𝓤) (A : Atoms 𝓤) (W : Given
           ∙ (ap (λ (x : RefT (List ℕ)). stepAt (now x) (r′ .at)) (same .0)
           ∙ (ap (stepAt (now (r .entries))) (same .1) ∙ ap (λ (l : List ℕ). stepAt l m) held)))))))))))))))
 
-  meets : (𝓣 : Tables 𝓤 H) → Triple 𝓤 (𝓣 .C #of-node) OfNode → Triple 𝓤 (𝓣 .C #moved) Moved → Triple 𝓤 (𝓣 .C #next) Next
+  meets : (𝓣 : Tables 𝓤 H) → Triple 𝓤 (𝓣 .C #of-node) OfNode → Triple 𝓤 (𝓣 .C #moved) Moved → Triple 𝓤 (𝓣 .C #peek) Peek
       → Meets 𝓤 H A edge-at.signature (WpFn 𝓤 H (𝓣 .C) (𝓣 .Λ) code.function) (edge-at.spec 𝓤 H A mem run)
-  meets 𝓣 known-of-node known-moved known-next = meets-by 𝓤 H A edge-at.ended c (WpFn 𝓤 H (𝓣 .C) (𝓣 .Λ) code.function)
+  meets 𝓣 known-of-node known-moved known-peek = meets-by 𝓤 H A edge-at.ended c (WpFn 𝓤 H (𝓣 .C) (𝓣 .Λ) code.function)
       (λ κs. (slice-vals, (slice-vals, (LL.vals N.the-type N′.the-laws, (uint-vals w64, tt)))))
       (λ κs. (shr-slice-tells (named 0) (κs .0) u16, (shr-slice-tells (named 1) (κs .1 .0) u16, (LL.tells N.the-type N′.the-laws, (uint-tells w64, tt)))))
       (λ κs qs bounds a g are. walk (κs .0) (κs .1 .0) (qs .0) (qs .1 .0) (a .0) (a .1 .0) (a .1 .1 .0) (a .1 .1 .1 .0) (are .1 .1 .1 .0 .1)
-      (𝓣 .C) (𝓣 .Λ) (fmOf 𝓤 H (W .laws) 𝓣) known-of-node known-moved known-next (are .0) (are .1 .0) (are .1 .1 .0))
+      (𝓣 .C) (𝓣 .Λ) (fmOf 𝓤 H (W .laws) 𝓣) known-of-node known-moved known-peek (are .0) (are .1 .0) (are .1 .1 .0))
 
 pub edge-at-spec : {M : Type 1} → stated.statement M
 unfolding code.routine tablesOf
@@ -191,5 +191,5 @@ edge-at-spec 𝓤 H 𝓜 𝓖 𝓡 =
     #of-node of-node-def.routine code.calls-graph·walk·EdgeWalk·of-node (of-node-thm.met 𝓤 H 𝓜 𝓖 𝓡))
     (cited 𝓤 H (Moved 𝓤 H (𝓖 .A) (givenOf 𝓤 H 𝓜 𝓖) (𝓜 .mem) (𝓡 .run)) 𝓜 𝓡 code.env
     #moved moved-def.routine code.calls-graph·walk·EdgeWalk·moved (moved-thm.met 𝓤 H 𝓜 𝓖 𝓡))
-    (cited 𝓤 H (Next 𝓤 H (𝓖 .A) (givenOf 𝓤 H 𝓜 𝓖) (𝓜 .mem) (𝓡 .run)) 𝓜 𝓡 code.env
-    #next next-def.routine code.calls-graph·walk·EdgeWalk·next (next-thm.met 𝓤 H 𝓜 𝓖 𝓡)))
+    (cited 𝓤 H (Peek 𝓤 H (𝓖 .A) (givenOf 𝓤 H 𝓜 𝓖) (𝓜 .mem) (𝓡 .run)) 𝓜 𝓡 code.env
+    #peek peek-def.routine code.calls-graph·walk·EdgeWalk·peek (peek-thm.met 𝓤 H 𝓜 𝓖 𝓡)))

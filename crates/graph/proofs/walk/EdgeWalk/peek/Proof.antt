@@ -1,4 +1,4 @@
--- `EdgeWalk::next` meets its contract: a walk of its MIR, by hand. The struct is taken apart, and `step_at` is called on its fields.
+-- `EdgeWalk::peek` meets its contract: a walk of its MIR, by hand. The struct is taken apart, and `step_at` is called on its fields.
 -- `step_at` takes the fields in their order, so what they own together is what it asks.
 use mathlib.Core.Path.{_≡_, refl}
 use mathlib.Core.List.{[], _∷_}
@@ -45,10 +45,10 @@ use Rattle.graph.proofs.walk.step_at as step-at
 use Rattle.graph.proofs.walk.step_at.Symbol as step-at-def
 use Rattle.graph.proofs.walk.step_at.Symbol.{name as #step-at}
 use Rattle.graph.proofs.walk.step_at.Met as step-at-thm
-use Rattle.graph.proofs.walk.EdgeWalk.next.Key.{name as #next}
-use Rattle.graph.proofs.walk.EdgeWalk.next as next
-use Rattle.graph.proofs.walk.EdgeWalk.next.Statement as stated
-use Rattle.graph.proofs.walk.EdgeWalk.next.Code as code
+use Rattle.graph.proofs.walk.EdgeWalk.peek.Key.{name as #peek}
+use Rattle.graph.proofs.walk.EdgeWalk.peek as peek
+use Rattle.graph.proofs.walk.EdgeWalk.peek.Statement as stated
+use Rattle.graph.proofs.walk.EdgeWalk.peek.Code as code
 
 -- the struct's type and laws, over the signature's lifetimes
 abbrev D : Lfts 1 → Declared
@@ -58,8 +58,8 @@ abbrev L : (κs : Lfts 1) → LL.Laws (D κs)
 L κs = T′.the-laws (namedLft 1 0 tt κs)
 
 module _ {M : Type 1} (𝓤 : URA M) (H : Heap 𝓤) (A : Atoms 𝓤) (W : Given 𝓤 H A) (mem : Memory → SProp 𝓤) (run : Routine → Fun 𝓤) where
-  abbrev c : Clauses 𝓤 next.ended
-  c = next.clauses 𝓤 H A mem run
+  abbrev c : Clauses 𝓤 peek.ended
+  c = peek.clauses 𝓤 H A mem run
 
   -- the contract that the proof cites
   abbrev StepAt : Contract 𝓤
@@ -67,11 +67,11 @@ module _ {M : Type 1} (𝓤 : URA M) (H : Heap 𝓤) (A : Atoms 𝓤) (W : Given
 
   module _ (κ : Lft) (q : Share) (d : EdgeWalk) where
     -- what the contract binds: the lifetime, its share, the arguments and their machine values
-    abbrev y : contractOf 𝓤 H A next.ended c .Ghost
+    abbrev y : contractOf 𝓤 H A peek.ended c .Ghost
     y = (((κ, tt), (q, tt), tt, (d, tt), (T′.lowered d ∷ [], tt)), tt)
 
     abbrev Entry : SProp 𝓤
-    Entry = onEntry 𝓤 H A next.signature (κ, tt) (q, tt) (d, tt) (y .0 .4)
+    Entry = onEntry 𝓤 H A peek.signature (κ, tt) (q, tt) (d, tt) (y .0 .4)
 
     -- the same of the call
     abbrev to : StepAt .Ghost
@@ -79,7 +79,7 @@ module _ {M : Type 1} (𝓤 : URA M) (H : Heap 𝓤) (A : Atoms 𝓤) (W : Given
 
     asks : ent 𝓤 Entry (StepAt .pre to)
     asks =
-        qed W (raw (alive 𝓤 H A next.signature (κ, tt) (q, tt)) ∷ ‵ (owns (T.the-row (namedLft 1 0 tt (κ, tt)) ∷ []) (d, tt) (y .0 .4)) ∷ []) ∵
+        qed W (raw (alive 𝓤 H A peek.signature (κ, tt) (q, tt)) ∷ ‵ (owns (T.the-row (namedLft 1 0 tt (κ, tt)) ∷ []) (d, tt) (y .0 .4)) ∷ []) ∵
         move ! (1 ∷ []) $ fsplit ! $ move ! (1 ∷ []) $ drop ! $
         use1 W (given (T′.lowered d ∷ [] ≡ T′.lowered d ∷ []) (‵ (all-own (D (κ, tt) .parts) (L (κ, tt)) (d .entries, (d .at, tt)))))
         (own-open 𝓤 H A W (D (κ, tt)) (L (κ, tt)) (d .entries, (d .at, tt)) (T′.lowered d)) $
@@ -87,7 +87,7 @@ module _ {M : Type 1} (𝓤 : URA M) (H : Heap 𝓤) (A : Atoms 𝓤) (W : Given
 
     module _ (C : Calls 𝓤 H) (Λ : Loops 𝓤 H) (fm : FmC 𝓤 H (W .laws) C) (known : Triple 𝓤 (C #step-at) StepAt) where
       walk : Holds (hasTy (T′.mir (named 0)) (T′.lowered d)) × WT (T′.lowered d)
-          → ent 𝓤 Entry (WpFn 𝓤 H C Λ code.function (T′.lowered d ∷ []) (contractOf 𝓤 H A next.ended c .post y))
+          → ent 𝓤 Entry (WpFn 𝓤 H C Λ code.function (T′.lowered d ∷ []) (contractOf 𝓤 H A peek.ended c .post y))
       walk typed =
           qed W (raw Entry ∷ []) ∵ enter ! C Λ code.function (T′.lowered d ∷ []) _ $
           alloc1 ! (λ l₀. alloc1 ! (λ l₁. alloc1 ! (λ l₂. alloc1 ! (λ l₃. alloc0 ! $ params1 ! $
@@ -105,20 +105,20 @@ module _ {M : Type 1} (𝓤 : URA M) (H : Heap 𝓤) (A : Atoms 𝓤) (W : Given
           set-local ! 8 refl (EL.lawful S.the-type S′.the-laws 𝓤 H A W tt .typed r _ is .0) $
           returns ! (look ! 8 refl) $ forget ! 2 refl $ forget ! 4 refl $ forget ! 6 refl $ forget ! 8 refl $
           move ! (8 ∷ 9 ∷ 6 ∷ 7 ∷ 4 ∷ 5 ∷ 2 ∷ 3 ∷ []) $ free1 ! $ free1 ! $ free1 ! $ free1 ! $ free0 ! $
-          by ! (ends 𝓤 H A next.ended c y W u r (tt, tt) (tt, tt) (tt, tt) (factI 𝓤 _ (emp 𝓤) found)))))))
+          by ! (ends 𝓤 H A peek.ended c y W u r (tt, tt) (tt, tt) (tt, tt) (factI 𝓤 _ (emp 𝓤) found)))))))
 
   meets : (𝓣 : Tables 𝓤 H) → Triple 𝓤 (𝓣 .C #step-at) StepAt
-      → Meets 𝓤 H A next.signature (WpFn 𝓤 H (𝓣 .C) (𝓣 .Λ) code.function) (next.spec 𝓤 H A mem run)
-  meets 𝓣 known = meets-by 𝓤 H A next.ended c (WpFn 𝓤 H (𝓣 .C) (𝓣 .Λ) code.function)
+      → Meets 𝓤 H A peek.signature (WpFn 𝓤 H (𝓣 .C) (𝓣 .Λ) code.function) (peek.spec 𝓤 H A mem run)
+  meets 𝓣 known = meets-by 𝓤 H A peek.ended c (WpFn 𝓤 H (𝓣 .C) (𝓣 .Λ) code.function)
       (λ κs. (LL.vals (D κs) (L κs), tt)) (λ κs. (LL.tells (D κs) (L κs), tt))
       (λ κs qs bounds a g are. walk (κs .0) (qs .0) (a .0) (𝓣 .C) (𝓣 .Λ) (fmOf 𝓤 H (W .laws) 𝓣) known
       (LL.lawful (D κs) (L κs) 𝓤 H A W .typed (a .0) _ (are .0) .0))
 
-pub next-spec : {M : Type 1} → stated.statement M
+pub peek-spec : {M : Type 1} → stated.statement M
 unfolding code.routine tablesOf
-next-spec 𝓤 H 𝓜 𝓖 𝓡 =
-    entered 𝓤 H (tripleOf 𝓤 H (𝓖 .A) next.signature (next.spec 𝓤 H (𝓖 .A) (𝓜 .mem) (𝓡 .run)))
-    (tables 𝓤 H 𝓜 𝓡 code.env .C) (tables 𝓤 H 𝓜 𝓡 code.env .Λ) #next code.function (code.unfolded 𝓤 H 𝓜 𝓡)
+peek-spec 𝓤 H 𝓜 𝓖 𝓡 =
+    entered 𝓤 H (tripleOf 𝓤 H (𝓖 .A) peek.signature (peek.spec 𝓤 H (𝓖 .A) (𝓜 .mem) (𝓡 .run)))
+    (tables 𝓤 H 𝓜 𝓡 code.env .C) (tables 𝓤 H 𝓜 𝓡 code.env .Λ) #peek code.function (code.unfolded 𝓤 H 𝓜 𝓡)
     (meets 𝓤 H (𝓖 .A) (givenOf 𝓤 H 𝓜 𝓖) (𝓜 .mem) (𝓡 .run) (tablesOf 𝓤 H 𝓜 (tables 𝓤 H 𝓜 𝓡 code.env))
     (cited 𝓤 H (StepAt 𝓤 H (𝓖 .A) (givenOf 𝓤 H 𝓜 𝓖) (𝓜 .mem) (𝓡 .run)) 𝓜 𝓡 code.env
     #step-at step-at-def.routine code.calls-graph·walk·step-at (step-at-thm.met 𝓤 H 𝓜 𝓖 𝓡)))
