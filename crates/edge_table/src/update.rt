@@ -43,7 +43,7 @@ pub fn color_of(work: &[u16], edge: EdgeIndex) -> Color
     if k < work.len() {
         Color(work[k])
     } else {
-        Color(Color::NONE)
+        Color::none()
     }
 }
 
@@ -64,7 +64,7 @@ fn uncolor(ends: &[u16], work: &mut [u16], table: &mut [u16], edge: EdgeIndex)
 {
     let color = color_of(work, edge);
     enter_at_ends(ends, table, edge, color, Entry(Entry::NONE));
-    set_color(work, edge, Color(Color::NONE));
+    set_color(work, edge, Color::none());
 }
 
 // The edge, which has no colour, takes this one.

@@ -1,12 +1,12 @@
 -- `color_of` meets its contract: beyond the list there is no colour.
-use mathlib.Core.Path.{sym}
+use mathlib.Core.Path.{sym, _∙_}
 use borrow.Author.Needs.{needs}
 use Rattle.graph.specs.ColoredLaws.{color-read, color-outside}
 use Rattle.edge_table.proofs.update.color_of.Statement.{statement}
 use Rattle.edge_table.proofs.update.color_of.Tie as tie
 
 returns-2 : tie.Need-returns-2
-returns-2 c = sym (color-outside _ _ (c .if1 .left))
+returns-2 c = c .none .ensures ∙ sym (color-outside _ _ (c .before .if1 .left))
 
 pub color-of-spec : {M : Type 1} → statement M
-color-of-spec = tie.close (tie.spec (λ c. search needs) (λ c. search needs) (λ c. search needs) (λ c. search (needs, color-read)) returns-2)
+color-of-spec = tie.close (tie.spec (λ c. search needs) (λ c. search needs) (λ c. search needs) (λ c κs. search needs) (λ c. search (needs, color-read)) returns-2)

@@ -8,5 +8,8 @@ pub uncolor-spec : {M : Type 1} → statement M
 uncolor-spec =
     tie.close
     (tie.spec
-    (λ c κs. search needs) (λ c κs. search needs) (λ c κs. search needs) (λ c. search needs) (λ c. search needs)
-    (λ c. search (needs, uncolor-leaves)))
+    (λ c κs. search needs) (λ c κs. search needs) (λ c κs. search needs) (λ c κs. search needs) (λ c. search needs) (λ c. search needs)
+    (λ c. let none = c .before .before .before .none .ensures in
+    uncolor-leaves _ _ _ _ _ _ _ (c .before .before .before .before .before .before .before .before .before .color-of .ensures)
+    (c .before .before .before .before .before .before .before .enter-at-ends .ensures)
+    (rw none at (c .before .before .set-color .ensures))))
