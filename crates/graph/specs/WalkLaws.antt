@@ -11,6 +11,7 @@ use Rattle.lists.specs.Tests.{by-test}
 use Rattle.graph.specs.declared.EdgeIndex.{EdgeIndex}
 use Rattle.graph.specs.declared.walk.WalkStep.{WalkStep}
 use Rattle.graph.specs.declared.walk.WalkStep.the-variants.{Edge, End}
+use Rattle.graph.specs.Edges.{farEnd}
 use Rattle.graph.specs.Walk.{stepAt}
 
 step-inside : (l : List ℕ) (at : ℕ) → ltb at (length l) ≡ true → stepAt l at ≡ Edge (record { 0 = getD l at 0 }) (at + 1)
@@ -32,3 +33,9 @@ step-edge l at r k next p q = by-test (ltb at (length l))
     let i : k ≡ record { 0 = getD l at 0 } = cc in
     (ltb-true at (length l) t, ap (λ (x : EdgeIndex). x .0) i, cc))
     (λ t. let e = step-outside l at t in let z : _≡_ {A = ℕ} 0 1 = cc in absurd (omega arith))
+
+-- The same for its far end at a node, as `far_end` answers it.
+pub step-far : (ends l : List ℕ) (v at : ℕ) (r : WalkStep) (k : EdgeIndex) (next w : ℕ) → r ≡ stepAt l at → r ≡ Edge k next → w ≡ farEnd ends (k .0) v → (at < length l) × (w ≡ farEnd ends (getD l at 0) v) × (next ≡ at + 1)
+step-far ends l v at r k next w p q f =
+    let s = step-edge l at r k next p q in
+    (s .0, f ∙ ap (λ (j : ℕ). farEnd ends j v) (s .1), s .2)
