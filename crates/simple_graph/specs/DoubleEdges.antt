@@ -73,8 +73,8 @@ module _ (ends edges : List ℕ) (v : ℕ) where
   seen-room before seen i w r s l h p = omega (arith, r .inside i h)
 
   -- The edge at place i has far end w. Without v's stamp at w, no edge before it has that far end.
-  pub seen-more : (seen : List ℕ) (i w : ℕ) → Seen i seen → w ≡ farEnd ends (getD edges i 0) v → w < length seen → (getD seen w 0 ≡ v + 1 → ⊥) → Seen (i + 1) (set seen w (v + 1))
-  seen-more seen i w s p h new = record {
+  pub seen-more : (seen : List ℕ) (i w next : ℕ) → Seen i seen → w ≡ farEnd ends (getD edges i 0) v → w < length seen → (getD seen w 0 ≡ v + 1 → ⊥) → next ≡ i + 1 → Seen next (set seen w (v + 1))
+  seen-more seen i w next s p h new e = rw e (record {
     distinct = λ a b l m e. elim (dec-eq b i) [
       | inl q ↦ new (rw (p ∙ sym (rw q at e)) (s .stamped a (omega arith)))
       | inr q ↦ s .distinct a b l (omega arith) e
@@ -91,7 +91,7 @@ module _ (ends edges : List ℕ) (v : ℕ) where
       | inl q ↦ rw q (omega (arith, getD-set-same seen w (v + 1) 0 h))
       | inr q ↦ omega (arith, getD-set-other seen w x (v + 1) 0 q, s .low x)
     ];
-  }
+  })
 
   -- With v's stamp at w, an edge before it has that far end too.
   pub seen-twice : (seen : List ℕ) (i w : ℕ) → Seen i seen → w ≡ farEnd ends (getD edges i 0) v → i < length edges → getD seen w 0 ≡ v + 1 → Tells true
@@ -173,19 +173,22 @@ pub no-node : (ends : List ℕ) → Before ends 0 (replicate 512 0)
 no-node ends = record { distinct = λ u h. absurd (not-suc-le-zero h); old = zero-at 512; size = refl }
 
 -- Node v's turn, with its edges as the table gives them.
-module _ (n : ℕ) (ends starts entries edges : List ℕ) (v : ℕ) (table : Table ends n starts entries) (h : v < n) (e : edges ≡ stretch starts entries v) where
+module _ (n : ℕ) (ends starts entries : List ℕ) (v : ℕ) (table : Table ends n starts entries) (h : v < n) where
+  abbrev edges : List ℕ
+  edges = stretch starts entries v
+
   pub node-ready : (seen : List ℕ) → Passed n ends → Before ends v seen → Ready ends edges v seen
   node-ready seen p b = record {
-    inside = λ i l. omega (arith, far-inside n ends p (getD edges i 0) v (listed-edge ends edges v (e ∙ table .row v h) i l .0), p .nodes, b .size);
+    inside = λ i l. omega (arith, far-inside n ends p (getD edges i 0) v (listed-edge ends edges v (table .row v h) i l .0), p .nodes, b .size);
     old = b .old;
   }
 
   pub double-found : (r : Bool) → hasLoop ends (edgeCount ends) ≡ false → Tells ends edges v r → r ≡ true → true ≡ hasDoubleEdge ends (edgeCount ends)
-  double-found r loop t d = double-edge ends edges v (e ∙ table .row v h) loop (t .twice d)
+  double-found r loop t d = double-edge ends edges v (table .row v h) loop (t .twice d)
 
   pub node-more : (r : Bool) (seen after : List ℕ) → Before ends v seen → Tells ends edges v r → r ≡ false → ((w : ℕ) → getD after w 0 ≤ v + 1) → length after ≡ length seen → Before ends (v + 1) after
   node-more r seen after b t d low l = record {
-    distinct = λ u k. elim (dec-eq u v) [ inl p ↦ rw (p, ← table .row v h, ← e) (t .distinct d) | inr p ↦ b .distinct u (omega arith) ];
+    distinct = λ u k. elim (dec-eq u v) [ inl p ↦ rw (p, ← table .row v h) (t .distinct d) | inr p ↦ b .distinct u (omega arith) ];
     old = low;
     size = l ∙ b .size;
   }

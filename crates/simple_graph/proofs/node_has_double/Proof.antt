@@ -3,24 +3,38 @@ use Prim.Native.Nat.{_≤_, _-_}
 use mathlib.Core.Path.{_≡_}
 use lib.ListN.{length}
 use borrow.Author.Needs.{needs}
+use native.Mathlib.Omega.{arith}
+use Rattle.graph.specs.Stretch.{stretch}
+use Rattle.graph.specs.WalkLaws.{step-end, step-far}
 use Rattle.simple_graph.specs.DoubleEdges.{Seen, seen-none, seen-room, seen-more, seen-twice, seen-all}
 use Rattle.simple_graph.proofs.node_has_double.Statement.{statement}
 use Rattle.simple_graph.proofs.node_has_double.Tie as tie
 
 abbrev Inv-loop : tie.InvT-loop
-Inv-loop ends edges node seen₀ stamp i₀ seen i = (i ≤ length edges) × (length seen ≡ length seen₀) × Seen ends edges (node .0) i seen
+Inv-loop ends starts entries node seen₀ stamp at₀ seen at =
+    (at ≤ length (stretch starts entries (node .0))) × (length seen ≡ length seen₀) × Seen ends (stretch starts entries (node .0)) (node .0) at seen
 
 abbrev μ-loop : tie.MeasureT-loop
-μ-loop ends edges node seen₀ stamp i₀ seen i = length edges - i
+μ-loop ends starts entries node seen₀ stamp at₀ seen at = length (stretch starts entries (node .0)) - at
 
 returns : tie.Need-returns Inv-loop μ-loop
-returns c = search (needs, seen-twice)
+returns c = let end = step-end _ _ _ (c .before .before .edge-at .ensures) (c .enum-told .given .1) in search (needs, seen-all)
 
-loop-again : tie.Need-loop-again Inv-loop μ-loop
-loop-again c = search (needs, seen-more, seen-room)
+-- The edge at the walk's place, its far end, and the place after it.
+slice-read-if1 : tie.Need-slice-read-if1 Inv-loop μ-loop
+slice-read-if1 c = let edge = step-far _ _ _ _ _ _ _ _ (c .before .before .before .before .before .before .edge-at .ensures) (c .before .before .before .before .edge .given .1) (c .before .before .far-end .ensures) in search (needs, seen-room)
 
 returns-2 : tie.Need-returns-2 Inv-loop μ-loop
-returns-2 c = search (needs, seen-all)
+returns-2 c = let edge = step-far _ _ _ _ _ _ _ _ (c .before .before .before .before .before .before .before .edge-at .ensures) (c .before .before .before .before .before .edge .given .1) (c .before .before .before .far-end .ensures) in search (needs, seen-twice)
+
+slice-write-seen : tie.Need-slice-write-seen Inv-loop μ-loop
+slice-write-seen c = let edge = step-far _ _ _ _ _ _ _ _ (c .before .before .before .before .before .before .before .edge-at .ensures) (c .before .before .before .before .before .edge .given .1) (c .before .before .before .far-end .ensures) in search (needs, seen-room)
+
+loop-less : tie.Need-loop-less Inv-loop μ-loop
+loop-less c = let edge = step-far _ _ _ _ _ _ _ _ (c .before .before .before .before .before .before .before .edge-at .ensures) (c .before .before .before .before .before .edge .given .1) (c .before .before .before .far-end .ensures) in omega arith
+
+loop-again : tie.Need-loop-again Inv-loop μ-loop
+loop-again c = let edge = step-far _ _ _ _ _ _ _ _ (c .before .before .before .before .before .before .before .edge-at .ensures) (c .before .before .before .before .before .edge .given .1) (c .before .before .before .far-end .ensures) in search (needs, seen-more, seen-room)
 
 pub node-has-double-spec : {M : Type 1} → statement M
 node-has-double-spec =
@@ -28,13 +42,13 @@ node-has-double-spec =
     (tie.spec Inv-loop μ-loop
     (λ c. search needs)
     (λ c. search (needs, seen-none))
-    (λ c. search needs) (λ c. search needs) (λ c κs. search needs) (λ c. search needs) (λ c. search needs)
-    (λ c. search (needs, seen-room))
-    (λ c. search needs)
+    (λ c κs. search needs) (λ c. search needs) (λ c. search needs)
     returns
+    (λ c. search needs) (λ c κs. search needs) (λ c. search needs) (λ c. search needs)
+    slice-read-if1
     (λ c. search needs)
-    (λ c. search (needs, seen-room))
-    (λ c. search needs) (λ c. search needs)
-    loop-again
+    returns-2
     (λ c. search needs)
-    returns-2)
+    slice-write-seen
+    loop-less
+    loop-again)

@@ -28,7 +28,7 @@ table-has-double-spec =
     tie.close
     (tie.spec Inv-loop μ-loop
     (λ c. search (needs, no-node))
-    (λ c. search needs) (λ c κs. search needs) (λ c. search needs)
+    (λ c. search needs) (λ c. search needs)
     node-has-double-requires
     returns
     (λ c. search needs) (λ c. search needs)
