@@ -9,6 +9,15 @@ use Rattle.graph.specs.Stretch.{stretch, stretchStart}
 use Rattle.graph.proofs.edges.edges_at.Statement.{statement}
 use Rattle.graph.proofs.edges.edges_at.Tie as tie
 
+-- the stretch stands in the entries
+returns-4 : tie.Need-returns-4
+unfolding stretch stretchStart
+returns-4 c =
+    let both = lt-ltb _ _ (c .before .before .before .before .before .if1 .left) in
+    let rises = le-leb _ _ (c .before .before .if2 .left) in
+    let stands = le-leb _ _ (c .before .if3 .left) in
+    (simp (both, rises, stands), (refl, simp (both, rises, stands) (omega arith)))
+
 -- there is no start for the next node
 returns : tie.Need-returns
 unfolding stretch stretchStart
@@ -32,15 +41,6 @@ returns-3 c =
     let rises = le-leb _ _ (c .before .before .if2 .left) in
     let passes = lt-leb _ _ (c .before .if3 .taken) in
     (simp (both, rises, passes), (refl, simp (both, rises, passes) (omega arith)))
-
--- the stretch stands in the entries
-returns-4 : tie.Need-returns-4
-unfolding stretch stretchStart
-returns-4 c =
-    let both = lt-ltb _ _ (c .before .before .before .before .before .if1 .left) in
-    let rises = le-leb _ _ (c .before .before .if2 .left) in
-    let stands = le-leb _ _ (c .before .if3 .left) in
-    (simp (both, rises, stands), (refl, simp (both, rises, stands) (omega arith)))
 
 pub edges-at-spec : {M : Type 1} → statement M
 edges-at-spec = tie.close (tie.spec
