@@ -1,4 +1,5 @@
 -- Laws of ends and incidence order: which edges stand at a node, that each stands once, far ends, degrees.
+-- The examples are brought in so that they are checked first: a wrong definition fails there, and not at a law that quotes it.
 use Prim.Native.Nat.{_*_, ℕ, zero, suc, _+_, _≤_, _<_}
 use mathlib.Core.Path.{_≡_, refl, sym, _∙_}
 use mathlib.Core.Logic.{_⊎_, inl, inr, _≢_}
@@ -11,6 +12,7 @@ use lib.Dec.{eqb}
 use borrow.Author.Tests.{eq-eqb, ne-eqb, eqb-true, eqb-false, not-true}
 use Rattle.lists.specs.Tests.{by-test, dec-eq, and-true}
 use Rattle.lists.specs.Member.{Mem, Nodup, mem-append, mem-append-left, mem-append-right, nodup-append}
+use Rattle.graph.specs.Examples.{examples}
 use Rattle.graph.specs.Edges.{firstEnd, secondEnd, isLoop, farEnd, keep, secondAt, firstEdges, secondEdges, edgesAt, degree}
 
 -- Edge k has v as an end.

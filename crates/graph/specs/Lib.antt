@@ -1,14 +1,10 @@
--- Graphs: reports and checks, colours, ends and incidence order, the incidence table. Definitions and examples stand before the
--- laws, so that a definition is held to its examples first.
+-- Graphs: reports and checks, ends and incidence order, the incidence table, colours, examples.
 pub mod Report
 pub mod Check
-pub mod Color
-pub mod Colored
-pub mod Rows
+pub mod CheckLaws
 pub mod Edges
 pub mod Table
 pub mod Examples
-pub mod CheckLaws
 pub mod EdgeLaws
 pub mod TableLaws
 pub mod CountLaws
@@ -16,5 +12,8 @@ pub mod Stretch
 pub mod Walk
 pub mod WalkLaws
 pub mod StretchLaws
+pub mod Color
+pub mod Colored
 pub mod ColoredLaws
 pub mod NeighborLaws
+pub mod Rows
