@@ -396,6 +396,12 @@ module _ (n : ℕ) (up : List ℕ) (flips : List Bool) (colors₀ : List ℕ) (c
         (rw p (by-test (getD flips v false) (λ t. simp t (omega arith)) (λ t. simp t above-two)))
         (λ low odd holds. p ∙ rw (colored .right low odd holds (getD up v 0) above-before, holds .hangs v inside .side) (hung-side (getD flips v false) (odd (getD up v 0))))
 
+-- What the answer r tells of m edges: the first n colours are those of the sides, or an odd closed walk exists.
+pub record NodesColored (ends : List ℕ) (m n : ℕ) (r : Bool) (colors : List ℕ) : Type 0 where
+  pub even : r ≡ true → oddCycle ends m ≡ false
+  pub sided : r ≡ true → take n colors ≡ sides ends m n
+  pub odd : r ≡ false → oddCycle ends m ≡ true
+
 pub colored-all : (ends : List ℕ) (m n : ℕ) (colors : List ℕ) → Sided (oddSide ends m) n colors → n ≤ length colors → take n colors ≡ sides ends m n
 unfolding sideColor
 colored-all ends m n colors sided h = ext-getD 0 (take n colors) (sides ends m n) (length-take-le n colors h ∙ sym (length-sides ends m n))

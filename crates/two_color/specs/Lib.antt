@@ -1,8 +1,9 @@
--- The theory of two-colouring: walks, the side of each node, and that colouring by sides is right.
+-- The theory of two-colouring: walks, the side of each node, the outcome and its examples, and that colouring by sides is right.
 pub mod Odd
 pub mod Walk
 pub mod Sides
-pub mod SideLaws
 pub mod TwoColor
+pub mod Examples
+pub mod SideLaws
 pub mod Components
 pub mod TwoColorLaws

@@ -1,4 +1,5 @@
 -- Laws of components, sides and colours: the lowest node of a component gets 1, neighbours get different colours, and colouring fails just where a closed walk of odd length exists.
+-- The examples are brought in so that they are checked first: a wrong definition fails there, and not at a law that quotes it.
 use Prim.Native.Nat.{ℕ, zero, suc, _-_, _≤_, _<_}
 use mathlib.Core.Path.{_≡_, refl, sym, ap, _∙_}
 use mathlib.Core.Logic.{_⊎_, inl, inr, _≢_}
@@ -13,6 +14,7 @@ use Rattle.lists.specs.Tests.{by-test, dec-eq, and-true, or-true, true-or, or-f
 use Rattle.lists.specs.Tabulate.{length-tabulate, tabulate-at}
 use Rattle.graph.specs.Edges.{firstEnd, secondEnd, farEnd}
 use Rattle.graph.specs.EdgeLaws.{At, far-first, far-second}
+use Rattle.two_color.specs.Examples.{examples}
 use Rattle.two_color.specs.Odd.{isOdd, false-xor, xor-false, not-xor, xor-not}
 use Rattle.two_color.specs.Walk.{Walk, stay, along, OddClosedWalk, WalkOf, walk-first, walk-second, walk-widen, of-append, of-reverse, of-widen, of-edge}
 use Rattle.two_color.specs.Sides.{lower, givesWay, lowest, oddSide, oddCycle, sideColor, sides}

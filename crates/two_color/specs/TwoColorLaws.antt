@@ -3,7 +3,7 @@ use Prim.Native.Nat.{ℕ, _-_, _≤_, _<_}
 use mathlib.Core.Path.{_≡_, refl, sym, ap, _∙_}
 use mathlib.Core.List.{List, [], _∷_}
 use mathlib.Core.Logic.{_⊎_, inl, inr}
-use mathlib.Core.Bool.{true, false, not}
+use mathlib.Core.Bool.{Bool, true, false, not}
 use mathlib.Core.Option.{Option, none, some}
 use native.Mathlib.Omega.{arith}
 use lib.ListN.{length, getD}
@@ -22,14 +22,21 @@ use Rattle.graph.specs.declared.Checked.the-variants as C
 use Rattle.two_color.specs.Walk.{OddClosedWalk}
 use Rattle.two_color.specs.Sides.{oddCycle, sideColor, sides}
 use Rattle.two_color.specs.SideLaws.{odd-cycle-walk, walk-odd-cycle, side-color-bound, color-second, length-sides, sides-at, lowest-node-one}
+use Rattle.two_color.specs.Components.{NodesColored}
 use Rattle.two_color.specs.TwoColor.{inputChecks, twoColor, sidesOutcome, Bipartition}
 
 -- ---- where the other checks pass
 
 module _ (n : ℕ) (ends lent : List ℕ) where
-  pub sides-refused : oddCycle ends (edgeCount ends) ≡ true → (refused 8 ≡ sidesOutcome n ends lent .report) × (lent ≡ sidesOutcome n ends lent .colors)
+  sides-refused : oddCycle ends (edgeCount ends) ≡ true → (refused 8 ≡ sidesOutcome n ends lent .report) × (lent ≡ sidesOutcome n ends lent .colors)
   unfolding sidesOutcome colored
   sides-refused e = let f = first-refuses (oddCycle ends (edgeCount ends)) 8 [] e in (answered-refused _ 8 _ f, written-refused _ 8 _ _ f)
+
+  pub report-refused : (r : Bool) (s : List ℕ) → NodesColored ends (edgeCount ends) n r s → r ≡ false → refused 8 ≡ sidesOutcome n ends lent .report
+  report-refused r s c p = sides-refused (c .odd p) .0
+
+  pub colors-refused : (r : Bool) (s : List ℕ) → NodesColored ends (edgeCount ends) n r s → r ≡ false → lent ≡ sidesOutcome n ends lent .colors
+  colors-refused r s c p = sides-refused (c .odd p) .1
 
   pub sides-accepted : (d : ℕ) (s colors : List ℕ) → oddCycle ends (edgeCount ends) ≡ false → s ≡ sides ends (edgeCount ends) n → d ≡ daysOf s → colors ≡ s → (accepted d ≡ sidesOutcome n ends lent .report) × (colors ≡ sidesOutcome n ends lent .colors)
   unfolding sidesOutcome colored

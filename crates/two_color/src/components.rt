@@ -1,12 +1,11 @@
 // Components and sides, one edge after the other: disjoint sets, as trees in which each node hangs under a lower one.
 ghost use mathlib.Core.Path.{_≡_};
-ghost use mathlib.Core.Bool.{Bool, true, false, cond};
+ghost use mathlib.Core.Bool.{Bool, false, cond};
 ghost use Prim.Native.Nat.{ℕ, _-_, _≤_, _<_};
-ghost use lib.ListN.{length, getD, take, replicate};
+ghost use lib.ListN.{length, getD, replicate};
 ghost use Rattle.graph.specs.CheckLaws.{Passed};
 ghost use Rattle.graph.specs.Edges.{edgeCount};
-ghost use Rattle.two_color.specs.Sides.{oddCycle, sides};
-ghost use Rattle.two_color.specs.Components.{Forest, Holds, Joined, Finds, Joins, Taken, Sided};
+ghost use Rattle.two_color.specs.Components.{Forest, Holds, Joined, Finds, Joins, Taken, Sided, NodesColored};
 use graph::NodeIndex;
 
 // The lowest node of a component, and whether the node that it was asked for is on the odd side.
@@ -141,8 +140,7 @@ pub(crate) fn color_nodes(
 ) -> bool
     requires { ⌜ Passed n (now ends) ⌝ }
     requires { ⌜ (length (now up) ≡ 512) × (now flips ≡ replicate 512 false) × (length (now colors) ≡ 512) ⌝ }
-    ensures { λ r. ⌜ (r ≡ true → (oddCycle (now (ends .entry)) (edgeCount (now (ends .entry))) ≡ false) × (take n (now (colors .exit)) ≡ sides (now (ends .entry)) (edgeCount (now (ends .entry))) n))
-        × (r ≡ false → oddCycle (now (ends .entry)) (edgeCount (now (ends .entry))) ≡ true) ⌝ }
+    ensures { λ r. ⌜ NodesColored (now (ends .entry)) (edgeCount (now (ends .entry))) n r (now (colors .exit)) ⌝ }
 {
     start(up);
     if !join_edges(ends, up, flips) {

@@ -1,24 +1,28 @@
 -- `color_checked` meets its contract: two colours suffice or not, and the sides are copied out.
 use mathlib.Core.Path.{sym, _∙_}
 use borrow.Author.Needs.{needs}
-use Rattle.two_color.specs.TwoColorLaws.{sides-fit, sides-accepted, sides-refused}
+use Rattle.two_color.specs.TwoColorLaws.{sides-fit, sides-accepted, report-refused, colors-refused}
 use Rattle.two_color.proofs.color_checked.Statement.{statement}
 use Rattle.two_color.proofs.color_checked.Tie as tie
 
+-- Nothing is written where 8 is said.
+returns-2 : tie.Need-returns-2
+returns-2 c = (search (needs, report-refused), search (needs, colors-refused))
+
 slice-aggregate-copy-out : tie.Need-slice-aggregate-copy-out
-slice-aggregate-copy-out c = let s = c .before .before .before .before .before .color-nodes .ensures .0 (c .before .if1 .taken) .1 in sym (sides-fit _ _ _ _ s .0)
+slice-aggregate-copy-out c = let s = c .before .before .before .before .before .color-nodes .ensures .sided (c .before .if1 .taken) in sym (sides-fit _ _ _ _ s .0)
 
 copy-out-requires : tie.Need-copy-out-requires
-copy-out-requires c κs = let s = c .before .before .before .before .before .before .color-nodes .ensures .0 (c .before .before .if1 .taken) .1 in let f = sides-fit _ _ _ _ s in (c .before .before .before .before .before .before .before .before .before .before .before .before .pre .1 ∙ sym (f .0), f .1)
+copy-out-requires c κs = let s = c .before .before .before .before .before .before .color-nodes .ensures .sided (c .before .before .if1 .taken) in let f = sides-fit _ _ _ _ s in (c .before .before .before .before .before .before .before .before .before .before .before .before .pre .1 ∙ sym (f .0), f .1)
 
 slice-aggregate-days-of : tie.Need-slice-aggregate-days-of
-slice-aggregate-days-of c = let s = c .before .before .before .before .before .before .before .before .before .before .color-nodes .ensures .0 (c .before .before .before .before .before .before .if1 .taken) .1 in sym (sides-fit _ _ _ _ s .0)
+slice-aggregate-days-of c = let s = c .before .before .before .before .before .before .before .before .before .before .color-nodes .ensures .sided (c .before .before .before .before .before .before .if1 .taken) in sym (sides-fit _ _ _ _ s .0)
 
 returns : tie.Need-returns
-returns c = let s = c .before .before .before .before .before .before .before .before .before .before .before .color-nodes .ensures .0 (c .before .before .before .before .before .before .before .if1 .taken) in sides-accepted _ _ _ _ _ _ (s .0) (s .1) (c .days-of .ensures) (c .before .before .before .before .copy-out .ensures)
-
-returns-2 : tie.Need-returns-2
-returns-2 c = sides-refused _ _ _ (c .before .before .before .before .color-nodes .ensures .1 (c .if1 .left))
+returns c =
+    let s = c .before .before .before .before .before .before .before .before .before .before .before .color-nodes .ensures in
+    let taken = c .before .before .before .before .before .before .before .if1 .taken in
+    sides-accepted _ _ _ _ _ _ (s .even taken) (s .sided taken) (c .days-of .ensures) (c .before .before .before .before .copy-out .ensures)
 
 pub color-checked-spec : {M : Type 1} → statement M
 color-checked-spec =

@@ -15,7 +15,11 @@ join-edges-requires c κs =
     (room-passed _ _ _ (p .0) size, joined-none _ (c .before .before .before .before .start .last .0) _ (λ v h. c .before .before .before .before .start .ensures v (omega (arith, c .before .before .before .before .start .kept .0))) size (p .1 .1))
 
 returns : tie.Need-returns
-returns c = (λ e. absurd (false≢true e), λ e. taken-clash _ _ _ _ _ (c .before .before .before .before .before .join-edges .ensures) (not-true _ (c .if1 .taken)))
+returns c = record {
+  even = λ e. absurd (false≢true e);
+  sided = λ e. absurd (false≢true e);
+  odd = λ e. taken-clash _ _ _ _ _ (c .before .before .before .before .before .join-edges .ensures) (not-true _ (c .if1 .taken));
+}
 
 write-sides-requires : tie.Need-write-sides-requires
 write-sides-requires c κs =
@@ -26,7 +30,11 @@ returns-2 : tie.Need-returns-2
 returns-2 c =
     let p = c .before .before .before .before .before .before .before .before .before .before .before .before .before .before .before .before .before .before .before .before .before .before .pre in
     let t = taken-fine _ _ _ _ _ (c .before .before .before .before .before .before .before .before .before .before .before .join-edges .ensures) (not-false _ (c .before .before .before .before .before .before .if1 .left)) in
-    (λ e. (t .0, colored-all _ _ _ _ (c .before .before .write-sides .ensures _ _ (t .1)) (omega (arith, p .0 .nodes, p .1 .2, c .before .before .write-sides .kept .1 .1 .1 .0))), λ e. absurd (true≢false e))
+    record {
+      even = λ e. t .0;
+      sided = λ e. colored-all _ _ _ _ (c .before .before .write-sides .ensures _ _ (t .1)) (omega (arith, p .0 .nodes, p .1 .2, c .before .before .write-sides .kept .1 .1 .1 .0));
+      odd = λ e. absurd (true≢false e);
+    }
 
 pub color-nodes-spec : {M : Type 1} → statement M
 color-nodes-spec =
