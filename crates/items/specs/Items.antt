@@ -79,25 +79,25 @@ pub node-first : (kind : Kind) (ends : List ℕ) (v : ℕ) → kind ≡ Nodes �
 unfolding firstNode
 node-first kind ends v k = rw k
 
-pub edge-first : (kind : Kind) (ends : List ℕ) (v a : ℕ) → kind ≡ Edges → a ≡ getD ends (2 * v) 0 → a ≡ firstNode kind ends v
+pub edge-first : (kind : Kind) (ends : List ℕ) (v k a : ℕ) → kind ≡ Edges → k ≡ v → a ≡ getD ends (2 * k) 0 → a ≡ firstNode kind ends v
 unfolding firstNode firstEnd
-edge-first kind ends v a k e = rw k e
+edge-first kind ends v k a q p e = rw (q, ← p) e
 
 pub node-second : (kind : Kind) (ends : List ℕ) (v : ℕ) → kind ≡ Nodes → v ≡ secondNode kind ends v
 unfolding secondNode
 node-second kind ends v k = rw k
 
-pub edge-second : (kind : Kind) (ends : List ℕ) (v a : ℕ) → kind ≡ Edges → a ≡ getD ends (2 * v + 1) 0 → a ≡ secondNode kind ends v
+pub edge-second : (kind : Kind) (ends : List ℕ) (v k a : ℕ) → kind ≡ Edges → k ≡ v → a ≡ getD ends (2 * k + 1) 0 → a ≡ secondNode kind ends v
 unfolding secondNode secondEnd
-edge-second kind ends v a k e = rw k e
+edge-second kind ends v k a q p e = rw (q, ← p) e
 
 pub node-across : (kind : Kind) (ends : List ℕ) (k w a : ℕ) → kind ≡ Nodes → a ≡ farEnd ends k w → a ≡ acrossOf kind ends k w
 unfolding acrossOf
 node-across kind ends k w a q e = rw q e
 
-pub edge-across : (kind : Kind) (ends : List ℕ) (k w : ℕ) → kind ≡ Edges → k ≡ acrossOf kind ends k w
+pub edge-across : (kind : Kind) (ends : List ℕ) (k w a : ℕ) → kind ≡ Edges → a ≡ k → a ≡ acrossOf kind ends k w
 unfolding acrossOf
-edge-across kind ends k w q = rw q
+edge-across kind ends k w a q e = rw q e
 
 module _ (kind : Kind) (edges at : List ℕ) (e : edges ≡ at) where
   pub count-none : length edges ≡ 0 → 0 ≡ length at - ownOf kind
@@ -255,9 +255,9 @@ module _ (kind : Kind) (ends starts entries colors : List ℕ) (v r : ℕ) (t : 
   unfolding neighborsOf
   free-at-node k e = rw k (smallest-color-node (t .sized .nodes) ends starts entries colors v r (t .sized .passed) (t .table) (omega (arith, t .sized .size ∙ ap (λ (x : Kind). itemsOf x (t .sized .nodes) ends) k)) e)
 
-  pub free-at-edge : kind ≡ Edges → colorOf colors v ≡ noColor
-      → r ≡ smallestFrom 4096 (colorsOf colors (stretch starts entries (firstEnd ends v)) ++ colorsOf colors (stretch starts entries (secondEnd ends v))) 0 → r ≡ smallestFreeAt colors (neighborsOf kind ends v)
+  pub free-at-edge : kind ≡ Edges → colorOf colors v ≡ noColor → (k : ℕ) → k ≡ v
+      → r ≡ smallestFrom 4096 (colorsOf colors (stretch starts entries (firstEnd ends k)) ++ colorsOf colors (stretch starts entries (secondEnd ends k))) 0 → r ≡ smallestFreeAt colors (neighborsOf kind ends v)
   unfolding neighborsOf
-  free-at-edge k bare e =
-      let b : v < edgeCount ends = omega (arith, t .sized .size ∙ ap (λ (x : Kind). itemsOf x (t .sized .nodes) ends) k) in
-      rw k (smallest-color-edge (t .sized .nodes) ends starts entries colors v r (t .sized .passed) (t .table) b bare e ∙ ap (smallestFreeAt colors) (edge-neighbors (t .sized .nodes) ends (t .sized .passed) v b))
+  free-at-edge q bare k p e =
+      let b : v < edgeCount ends = omega (arith, t .sized .size ∙ ap (λ (x : Kind). itemsOf x (t .sized .nodes) ends) q) in
+      rw q (smallest-color-edge (t .sized .nodes) ends starts entries colors v r (t .sized .passed) (t .table) b bare (rw p at e) ∙ ap (smallestFreeAt colors) (edge-neighbors (t .sized .nodes) ends (t .sized .passed) v b))

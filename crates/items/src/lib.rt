@@ -1,4 +1,5 @@
 // What is coloured: the nodes of a graph, or its edges. A node's neighbours lie across its edges; an edge's are the other edges at its ends.
+// An item is a node of the graph that is coloured: of the graph itself, or of its line graph, whose nodes are the edges.
 ghost use mathlib.Core.Path.{_≡_};
 ghost use Prim.Native.Nat.{_-_, _<_};
 ghost use lib.ListN.{length};
@@ -13,6 +14,8 @@ use graph::end_at;
 use graph::far_end;
 use greedy::smallest_color;
 use greedy::smallest_edge_color;
+use line_graph::edge_of_node;
+use line_graph::node_of_edge;
 
 mod marks;
 
@@ -24,36 +27,33 @@ pub enum Kind {
     Edges,
 }
 
-// An item's number, a node's or an edge's.
-pub struct Item(pub u16);
-
 // The first node of an item: a node itself, or an edge's first end.
-pub fn first_node(kind: Kind, ends: &[u16], item: Item) -> NodeIndex
+pub fn first_node(kind: Kind, ends: &[u16], item: NodeIndex) -> NodeIndex
     ensures { λ r. ⌜ r .0 ≡ firstNode kind (now (ends .entry)) (item .0) ⌝ }
 {
     match kind {
-        Kind::Nodes => NodeIndex(item.0),
-        Kind::Edges => end_at(ends, 2 * item.0 as usize),
+        Kind::Nodes => item,
+        Kind::Edges => end_at(ends, 2 * edge_of_node(item).0 as usize),
     }
 }
 
 // The second node of an item: a node itself again, or an edge's second end.
-pub fn second_node(kind: Kind, ends: &[u16], item: Item) -> NodeIndex
+pub fn second_node(kind: Kind, ends: &[u16], item: NodeIndex) -> NodeIndex
     ensures { λ r. ⌜ r .0 ≡ secondNode kind (now (ends .entry)) (item .0) ⌝ }
 {
     match kind {
-        Kind::Nodes => NodeIndex(item.0),
-        Kind::Edges => end_at(ends, 2 * item.0 as usize + 1),
+        Kind::Nodes => item,
+        Kind::Edges => end_at(ends, 2 * edge_of_node(item).0 as usize + 1),
     }
 }
 
 // The item to which an edge leads from a node: its far end, or the edge itself.
-pub fn across(kind: Kind, ends: &[u16], edge: EdgeIndex, node: NodeIndex) -> Item
+pub fn across(kind: Kind, ends: &[u16], edge: EdgeIndex, node: NodeIndex) -> NodeIndex
     ensures { λ r. ⌜ r .0 ≡ acrossOf kind (now (ends .entry)) (edge .0) (node .0) ⌝ }
 {
     match kind {
-        Kind::Nodes => Item(far_end(ends, edge, node).0),
-        Kind::Edges => Item(edge.0),
+        Kind::Nodes => far_end(ends, edge, node),
+        Kind::Edges => node_of_edge(edge),
     }
 }
 
@@ -77,7 +77,7 @@ pub fn neighbor_count(
     ends: &[u16],
     starts: &[u16],
     entries: &[u16],
-    item: Item,
+    item: NodeIndex,
 ) -> usize
     ensures { λ r. ⌜ (Within kind (now (ends .entry)) (now (starts .entry)) (now (entries .entry)) (item .0) → r ≡ length (neighborsOf kind (now (ends .entry)) (item .0))) ⌝ }
 {
@@ -97,13 +97,13 @@ pub fn free_color(
     starts: &[u16],
     entries: &[u16],
     colors: &[u16],
-    item: Item,
+    item: NodeIndex,
 ) -> Color
     ensures { λ r. ⌜ (Tabled kind (now (ends .entry)) (now (starts .entry)) (now (entries .entry)) (length (now (colors .entry))) → item .0 < length (now (colors .entry))
         → colorOf (now (colors .entry)) (item .0) ≡ noColor → r .0 ≡ smallestFreeAt (now (colors .entry)) (neighborsOf kind (now (ends .entry)) (item .0))) ⌝ }
 {
     match kind {
-        Kind::Nodes => smallest_color(ends, starts, entries, colors, NodeIndex(item.0)),
-        Kind::Edges => smallest_edge_color(ends, starts, entries, colors, EdgeIndex(item.0)),
+        Kind::Nodes => smallest_color(ends, starts, entries, colors, item),
+        Kind::Edges => smallest_edge_color(ends, starts, entries, colors, edge_of_node(item)),
     }
 }

@@ -8,7 +8,6 @@ ghost use Rattle.items.specs.Standing.{standsAt};
 ghost use Rattle.items.specs.Around.{acrossAll, around};
 ghost use Rattle.items.specs.Stored.{stored};
 ghost use Rattle.items.specs.Marks.{stands, markOf, Asked};
-use crate::Item;
 use crate::Kind;
 use crate::across;
 use crate::first_node;
@@ -84,7 +83,7 @@ fn item_mark(
     colors: &[u16],
     color: Color,
     at: &mut [u8],
-    item: Item,
+    item: NodeIndex,
 ) -> u8
     requires { ⌜ Asked kind (now ends) (now starts) (now entries) (now colors) (color .0) (now at) ⌝ }
     ensures { λ r. ⌜ (r ≡ markOf kind (now (ends .entry)) (now (starts .entry)) (now (entries .entry)) (now (colors .entry)) (color .0) (item .0))
@@ -146,7 +145,7 @@ fn mark_known(
     colors: &[u16],
     color: Color,
     marks: &mut [u8],
-    item: Item,
+    item: NodeIndex,
 )
     ensures { λ _. ⌜ now (marks .exit) ≡ stored (markOf kind (now (ends .entry)) (now (starts .entry)) (now (entries .entry)) (now (colors .entry)) (color .0)) (around kind (now (ends .entry)) (now (starts .entry)) (now (entries .entry)) (item .0)) (now (marks .entry)) ⌝ }
 {
@@ -207,7 +206,7 @@ pub fn mark_used(
     colors: &[u16],
     color: Color,
     marks: &mut [u8],
-    item: Item,
+    item: NodeIndex,
 )
     ensures { λ _. ⌜ (elem (color .0) (now (colors .entry)) ≡ true
         → now (marks .exit) ≡ stored (markOf kind (now (ends .entry)) (now (starts .entry)) (now (entries .entry)) (now (colors .entry)) (color .0)) (around kind (now (ends .entry)) (now (starts .entry)) (now (entries .entry)) (item .0)) (now (marks .entry))) ⌝ }

@@ -16,7 +16,7 @@ use Rattle.graph.specs.ColoredLaws.{color-read}
 use Rattle.greedy.specs.Turn.{uncolored}
 use Rattle.greedy.specs.UncoloredLaws.{last-colored, last-uncolored, uncolored-member}
 use Rattle.greedy.specs.Saturation.{greater, greatest}
-use Rattle.items.specs.declared.Item.{Item}
+use Rattle.graph.specs.declared.NodeIndex.{NodeIndex}
 use Rattle.saturation.specs.declared.turns.Choice.{Choice}
 use Rattle.saturation.specs.declared.turns.Choice.the-variants.{Next, Nothing}
 use Rattle.saturation.specs.Counts.{Counted, Cleared}
@@ -147,7 +147,7 @@ pub record NoneBelow (colors saturations waiting : List ℕ) (most longest k : �
 -- The answer of the scan over all items.
 pub record Chosen (colors saturations waiting : List ℕ) (choice : Choice) : Type 0 where
   pub nothing : choice ≡ Nothing → uncolored colors (length colors) ≡ []
-  pub next : (v : Item) → choice ≡ Next v → Leads saturations waiting colors (length colors) (v .0)
+  pub next : (v : NodeIndex) → choice ≡ Next v → Leads saturations waiting colors (length colors) (v .0)
 
 none-uncolored : (colors : List ℕ) (k : ℕ) → ((u : ℕ) → u < k → colorOf colors u ≢ noColor) → uncolored colors k ≡ []
 unfolding uncolored
@@ -191,7 +191,7 @@ module _ (colors saturations waiting : List ℕ) (most longest : ℕ) where
         let l = lead-all saturations waiting colors k bare lower (length colors) inside none in
         record {
           nothing = λ z. let y : _≡_ {A = ℕ} 0 1 = cc in absurd (omega arith);
-          next = λ v z. let i : record { 0 = k } ≡ v = cc in subst (λ (x : ℕ). Leads saturations waiting colors (length colors) x) (ap (λ (x : Item). x .0) i) l;
+          next = λ v z. let i : record { 0 = k } ≡ v = cc in subst (λ (x : ℕ). Leads saturations waiting colors (length colors) x) (ap (λ (x : NodeIndex). x .0) i) l;
         }
       where
         under : (u : ℕ) → u < k → colorOf colors u ≡ noColor → getD saturations u 0 ≡ most → getD waiting u 0 < getD waiting k 0

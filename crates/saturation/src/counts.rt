@@ -14,7 +14,6 @@ use graph::Color;
 use graph::EdgeIndex;
 use graph::NodeIndex;
 use graph::edges_at;
-use items::Item;
 use items::Kind;
 use items::across;
 use items::first_node;
@@ -37,7 +36,7 @@ pub(crate) fn start(
 {
     let mut v = 0;
     while v < colors.len() {
-        let count = neighbor_count(kind, ends, starts, entries, Item(v as u16));
+        let count = neighbor_count(kind, ends, starts, entries, NodeIndex(v as u16));
         colors[v] = Color::NONE;
         waiting[v] = count as u16;
         v += 1;
@@ -45,7 +44,13 @@ pub(crate) fn start(
 }
 
 // An item without a colour notes that a neighbour has taken one: it counts as different once.
-fn note(colors: &[u16], saturations: &mut [u16], waiting: &mut [u16], marks: &mut [u8], item: Item)
+fn note(
+    colors: &[u16],
+    saturations: &mut [u16],
+    waiting: &mut [u16],
+    marks: &mut [u8],
+    item: NodeIndex,
+)
     requires { ⌜ (item .0 < length (now colors)) × (item .0 < length (now saturations)) × (item .0 < length (now waiting)) × (item .0 < length (now marks)) ⌝ }
     requires { ⌜ (getD (now colors) (item .0) 0 ≡ noColor → (0 < getD (now waiting) (item .0) 0) × (getD (now marks) (item .0) 0 ≡ 0 → getD (now saturations) (item .0) 0 < 65535)) ⌝ }
     ensures { λ _. ⌜ Noted (now (colors .entry)) (item .0 ∷ []) (now (saturations .entry)) (now (waiting .entry)) (now (marks .entry)) (now (saturations .exit)) (now (waiting .exit)) (now (marks .exit)) ⌝ }
@@ -95,7 +100,7 @@ fn note_neighbors(
     saturations: &mut [u16],
     waiting: &mut [u16],
     marks: &mut [u8],
-    item: Item,
+    item: NodeIndex,
 )
     requires { ⌜ Tabled kind (now ends) (now starts) (now entries) (length (now colors)) ⌝ }
     requires { ⌜ item .0 < length (now colors) ⌝ }
@@ -141,7 +146,7 @@ fn note_color(
     colors: &mut [u16],
     saturations: &mut [u16],
     waiting: &mut [u16],
-    item: Item,
+    item: NodeIndex,
     color: Color,
 )
     requires { ⌜ Ready kind (now ends) (now starts) (now entries) (now colors) (now saturations) (now waiting) ⌝ }
@@ -178,7 +183,7 @@ pub(crate) fn take_color(
     colors: &mut [u16],
     saturations: &mut [u16],
     waiting: &mut [u16],
-    item: Item,
+    item: NodeIndex,
     color: Color,
 )
     requires { ⌜ Ready kind (now ends) (now starts) (now entries) (now colors) (now saturations) (now waiting) ⌝ }

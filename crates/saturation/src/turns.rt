@@ -12,13 +12,13 @@ ghost use Rattle.saturation.specs.Turns.{turnOf};
 use crate::counts::start;
 use crate::counts::take_color;
 use graph::Color;
-use items::Item;
+use graph::NodeIndex;
 use items::Kind;
 use items::free_color;
 
 // The item whose turn it is, or that all items have a colour.
 pub enum Choice {
-    Next(Item),
+    Next(NodeIndex),
     Nothing,
 }
 
@@ -78,7 +78,7 @@ fn choose(colors: &[u16], saturations: &[u16], waiting: &[u16]) -> Choice
         if saturations[item] == most {
             if waiting[item] == longest {
                 if colors[item] == Color::NONE {
-                    return Choice::Next(Item(item as u16));
+                    return Choice::Next(NodeIndex(item as u16));
                 }
             }
         }
@@ -165,7 +165,7 @@ fn set_presets(
             colors,
             saturations,
             waiting,
-            Item(v as u16),
+            NodeIndex(v as u16),
             Color(presets[v]),
         );
         v += 1;

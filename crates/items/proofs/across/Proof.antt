@@ -8,7 +8,7 @@ returns : tie.Need-returns
 returns c = node-across _ _ _ _ _ (c .before .enum-told .given .1) (c .far-end .ensures)
 
 returns-2 : tie.Need-returns-2
-returns-2 c = edge-across _ _ _ _ (c .enum-told2 .given .1)
+returns-2 c = edge-across _ _ _ _ _ (c .before .enum-told2 .given .1) (c .node-of-edge .ensures)
 
 pub across-spec : {M : Type 1} → statement M
-across-spec = tie.close (tie.spec (λ c. search needs) (λ c κs. search needs) (λ c. search needs) returns returns-2)
+across-spec = tie.close (tie.spec (λ c. search needs) (λ c κs. search needs) (λ c. search needs) (λ c κs. search needs) returns returns-2)

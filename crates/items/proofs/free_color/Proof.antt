@@ -8,12 +8,12 @@ returns : tie.Need-returns
 returns c = λ t h bare. free-at-node _ _ _ _ _ _ _ t h (c .before .enum-told .given .1) (c .smallest-color .ensures)
 
 returns-2 : tie.Need-returns-2
-returns-2 c = λ t h bare. free-at-edge _ _ _ _ _ _ _ t h (c .before .enum-told2 .given .1) bare (c .smallest-edge-color .ensures)
+returns-2 c = λ t h bare. free-at-edge _ _ _ _ _ _ _ t h (c .before .before .enum-told2 .given .1) bare _ (c .before .edge-of-node .ensures) (c .smallest-edge-color .ensures)
 
 pub free-color-spec : {M : Type 1} → statement M
 free-color-spec =
     tie.close
     (tie.spec
-    (λ c. search needs) (λ c κs. search needs) (λ c. search needs) (λ c κs. search needs)
+    (λ c. search needs) (λ c κs. search needs) (λ c. search needs) (λ c κs. search needs) (λ c κs. search needs)
     returns
     returns-2)
