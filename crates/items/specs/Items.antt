@@ -3,12 +3,13 @@ use Prim.Native.Nat.{ℕ, _+_, _-_, _*_, _≤_, _<_}
 use mathlib.Core.Path.{_≡_, refl, sym, ap, subst, _∙_}
 use mathlib.Core.Logic.{_⊎_, inl, inr, _≢_}
 use mathlib.Core.List.{List, _∷_, _++_}
+use mathlib.Core.Bool.{cond}
 use native.Mathlib.Omega.{arith}
 use lib.ListN.{length, getD, drop, length-drop}
 use lib.Seq.{length-take-le}
-use lib.Dec.{ltb, leb}
-use borrow.Author.Tests.{leb-true}
-use Rattle.lists.specs.Tests.{by-test}
+use lib.Dec.{eqb, ltb, leb}
+use borrow.Author.Tests.{leb-true, eq-eqb, ne-eqb}
+use Rattle.lists.specs.Tests.{by-test, dec-eq}
 use Rattle.lists.specs.Member.{Mem}
 use Rattle.graph.specs.CheckLaws.{Passed, passed-inside}
 use Rattle.graph.specs.Edges.{edgeCount, firstEnd, secondEnd, farEnd, edgesAt, degree, neighbors}
@@ -56,6 +57,22 @@ unfoldable pub neighborsOf : Kind → List ℕ → ℕ → List ℕ
 neighborsOf Nodes ends = neighbors ends (edgeCount ends)
 neighborsOf Edges ends = lineNeighbors ends (edgeCount ends)
 
+-- How many edges stand at node w by the table, an edge itself not counted.
+unfoldable pub countAt : Kind → List ℕ → List ℕ → ℕ → ℕ
+countAt kind starts entries w = length (stretch starts entries w) - ownOf kind
+
+-- How many neighbours item v has by the table: those at its first node, and those at its second where that is another.
+unfoldable pub neighborCount : Kind → List ℕ → List ℕ → List ℕ → ℕ → ℕ
+neighborCount kind ends starts entries v =
+    let first = firstNode kind ends v in
+    let second = secondNode kind ends v in
+    cond (eqb first second) (countAt kind starts entries first) (countAt kind starts entries first + countAt kind starts entries second)
+
+-- The smallest free colour of item v by the table: of the first 512 the smallest at no far end of a node's edges, of the first 4,096 the smallest on no edge at an edge's ends.
+unfoldable pub freeColor : Kind → List ℕ → List ℕ → List ℕ → List ℕ → ℕ → ℕ
+freeColor Nodes ends starts entries colors v = smallestFrom 512 (farColors ends colors v (stretch starts entries v)) 0
+freeColor Edges ends starts entries colors v = smallestFrom 4096 (colorsOf colors (stretch starts entries (firstEnd ends v)) ++ colorsOf colors (stretch starts entries (secondEnd ends v))) 0
+
 -- A graph that passed the checks has this many items.
 pub record Sized (kind : Kind) (ends : List ℕ) (items : ℕ) : Type 0 where
   pub nodes : ℕ
@@ -66,12 +83,6 @@ pub record Sized (kind : Kind) (ends : List ℕ) (items : ℕ) : Type 0 where
 pub record Tabled (kind : Kind) (ends starts entries : List ℕ) (items : ℕ) : Type 0 where
   pub sized : Sized kind ends items
   pub table : Table ends (sized .nodes) starts entries
-
--- An item of such a graph.
-pub record Within (kind : Kind) (ends starts entries : List ℕ) (v : ℕ) : Type 0 where
-  pub items : ℕ
-  pub tabled : Tabled kind ends starts entries items
-  pub inside : v < items
 
 -- ---- as the code answers
 
@@ -99,17 +110,37 @@ pub edge-across : (kind : Kind) (ends : List ℕ) (k w a : ℕ) → kind ≡ Edg
 unfolding acrossOf
 edge-across kind ends k w a q e = rw q e
 
-module _ (kind : Kind) (edges at : List ℕ) (e : edges ≡ at) where
-  pub count-none : length edges ≡ 0 → 0 ≡ length at - ownOf kind
+module _ (kind : Kind) (starts entries : List ℕ) (w : ℕ) (edges : List ℕ) (e : edges ≡ stretch starts entries w) where
+  pub count-none : length edges ≡ 0 → 0 ≡ countAt kind starts entries w
+  unfolding countAt
   count-none z = omega (arith, ap length e)
 
-  pub node-count-at : kind ≡ Nodes → length edges ≡ length at - ownOf kind
-  unfolding ownOf
+  pub node-count-at : kind ≡ Nodes → length edges ≡ countAt kind starts entries w
+  unfolding countAt ownOf
   node-count-at k = rw k (omega (arith, ap length e))
 
-  pub edge-count-at : kind ≡ Edges → length edges - 1 ≡ length at - ownOf kind
-  unfolding ownOf
+  pub edge-count-at : kind ≡ Edges → length edges - 1 ≡ countAt kind starts entries w
+  unfolding countAt ownOf
   edge-count-at k = rw k (omega (arith, ap length e))
+
+module _ (kind : Kind) (ends starts entries : List ℕ) (v a b r : ℕ) (p : a ≡ firstNode kind ends v) (q : b ≡ secondNode kind ends v) (x : r ≡ countAt kind starts entries a) where
+  pub count-one : a ≡ b → r ≡ neighborCount kind ends starts entries v
+  unfolding neighborCount
+  count-one e = rw (← p, ← q, eq-eqb a b e) x
+
+  pub count-two : (a ≡ b → ⊥) → (s : ℕ) → s ≡ countAt kind starts entries b → r + s ≡ neighborCount kind ends starts entries v
+  unfolding neighborCount
+  count-two n s y = rw (← p, ← q, ne-eqb a b n, x, y)
+
+module _ (kind : Kind) (ends starts entries colors : List ℕ) (v r : ℕ) where
+  pub node-free : kind ≡ Nodes → r ≡ smallestFrom 512 (farColors ends colors v (stretch starts entries v)) 0 → r ≡ freeColor kind ends starts entries colors v
+  unfolding freeColor
+  node-free q e = rw q e
+
+  pub edge-free : kind ≡ Edges → (k : ℕ) → k ≡ v → r ≡ smallestFrom 4096 (colorsOf colors (stretch starts entries (firstEnd ends k)) ++ colorsOf colors (stretch starts entries (secondEnd ends k))) 0
+      → r ≡ freeColor kind ends starts entries colors v
+  unfolding freeColor
+  edge-free q k p e = rw (q, ← p) e
 
 -- ---- a graph that passed
 
@@ -196,68 +227,66 @@ stretch-short starts entries v =
 
 -- The edges at two nodes are not too many to count.
 pub counts-fit : (kind : Kind) (starts entries : List ℕ) (a b r s : ℕ) → length entries * 2 < 9223372036854775808
-    → r ≡ length (stretch starts entries a) - ownOf kind → s ≡ length (stretch starts entries b) - ownOf kind → r + s < 18446744073709551616
+    → r ≡ countAt kind starts entries a → s ≡ countAt kind starts entries b → r + s < 18446744073709551616
+unfolding countAt
 counts-fit kind starts entries a b r s few x y = omega (arith, stretch-short starts entries a, stretch-short starts entries b)
 
-module _ (ends starts entries : List ℕ) where
-  stretch-degree : (n v : ℕ) → Table ends n starts entries → v < n → length (stretch starts entries v) ≡ degree ends (edgeCount ends) v
-  unfolding degree
-  stretch-degree n v table h = ap length (table .row v h)
+-- An edge stands among the edges at each of its ends.
+own-at : (ends : List ℕ) (v a : ℕ) → v < edgeCount ends → At ends v a → 1 ≤ degree ends (edgeCount ends) a
+unfolding degree
+own-at ends v a h p = member-length v (edgesAt ends (edgeCount ends) a) (at-edge ends (edgeCount ends) a v h p)
+  where
+    member-length : (k : ℕ) (ks : List ℕ) → Mem k ks → 1 ≤ length ks
+    member-length k (j ∷ ks) q = omega arith
 
-  -- An edge of the graph.
-  edge-within : (v : ℕ) → Within Edges ends starts entries v → v < edgeCount ends
-  edge-within v w = omega (arith, w .inside, w .tabled .sized .size)
+module _ (ends starts entries : List ℕ) (items : ℕ) where
+  -- As many edges stand at the nodes of an item as the table has there.
+  module _ (kind : Kind) (t : Tabled kind ends starts entries items) (v : ℕ) (h : v < items) where
+    at-first : length (stretch starts entries (firstNode kind ends v)) ≡ degree ends (edgeCount ends) (firstNode kind ends v)
+    unfolding degree
+    at-first = ap length (t .table .row (firstNode kind ends v) (first-inside kind ends items (t .sized) v h))
 
-  -- It stands among the edges at its ends.
-  own-at : (v a n : ℕ) → v < edgeCount ends → Table ends n starts entries → a < n → At ends v a → 1 ≤ length (stretch starts entries a)
-  own-at v a n h table b p = rw (table .row a b) (member-length v (edgesAt ends (edgeCount ends) a) (at-edge ends (edgeCount ends) a v h p))
-    where
-      member-length : (k : ℕ) (ks : List ℕ) → Mem k ks → 1 ≤ length ks
-      member-length k (j ∷ ks) q = omega arith
+    at-second : length (stretch starts entries (secondNode kind ends v)) ≡ degree ends (edgeCount ends) (secondNode kind ends v)
+    unfolding degree
+    at-second = ap length (t .table .row (secondNode kind ends v) (second-inside kind ends items (t .sized) v h))
 
-  -- The neighbours of an item whose two nodes are one,
-  pub neighbors-one : (kind : Kind) (v a b r : ℕ) → Within kind ends starts entries v → a ≡ firstNode kind ends v → b ≡ secondNode kind ends v → a ≡ b
-      → r ≡ length (stretch starts entries a) - ownOf kind → r ≡ length (neighborsOf kind ends v)
-  unfolding ownOf firstNode secondNode neighborsOf
-  neighbors-one Nodes v a b r w p q e s = let t = w .tabled in
-      omega (arith, s, stretch-degree (t .sized .nodes) a (t .table) (omega (arith, w .inside, t .sized .size)), ap (degree ends (edgeCount ends)) p, length-neighbors ends (edgeCount ends) v)
-  neighbors-one Edges v a b r w p q e s = let t = w .tabled in
-      omega (arith, s, stretch-degree (t .sized .nodes) a (t .table) (rw p (first-inside Edges ends (w .items) (t .sized) v (w .inside))), ap (degree ends (edgeCount ends)) p, line-neighbor-count-loop ends (edgeCount ends) v (edge-within v w) (sym p ∙ (e ∙ q)))
+  -- The neighbours of an item of a graph that passed the checks, whose two nodes are one,
+  neighbors-one : (kind : Kind) → Tabled kind ends starts entries items → (v : ℕ) → v < items → firstNode kind ends v ≡ secondNode kind ends v
+      → countAt kind starts entries (firstNode kind ends v) ≡ length (neighborsOf kind ends v)
+  unfolding countAt ownOf firstNode secondNode neighborsOf
+  neighbors-one Nodes t v h e = omega (arith, at-first Nodes t v h, length-neighbors ends (edgeCount ends) v)
+  neighbors-one Edges t v h e = omega (arith, at-first Edges t v h, line-neighbor-count-loop ends (edgeCount ends) v (omega (arith, t .sized .size)) e)
 
   -- and of one with two nodes.
-  pub neighbors-two : (kind : Kind) (v a b r s : ℕ) → Within kind ends starts entries v → a ≡ firstNode kind ends v → b ≡ secondNode kind ends v → (a ≡ b → ⊥)
-      → r ≡ length (stretch starts entries a) - ownOf kind → s ≡ length (stretch starts entries b) - ownOf kind → r + s ≡ length (neighborsOf kind ends v)
-  unfolding ownOf firstNode secondNode neighborsOf
-  neighbors-two Nodes v a b r s w p q n x y = absurd (n (p ∙ sym q))
-  neighbors-two Edges v a b r s w p q n x y =
-      let t = w .tabled in
-      let m = t .sized .nodes in
-      let h = edge-within v w in
-      let first : a < m = rw p (first-inside Edges ends (w .items) (t .sized) v (w .inside)) in
-      let second : b < m = rw q (second-inside Edges ends (w .items) (t .sized) v (w .inside)) in
+  neighbors-two : (kind : Kind) → Tabled kind ends starts entries items → (v : ℕ) → v < items → firstNode kind ends v ≢ secondNode kind ends v
+      → countAt kind starts entries (firstNode kind ends v) + countAt kind starts entries (secondNode kind ends v) ≡ length (neighborsOf kind ends v)
+  unfolding countAt ownOf firstNode secondNode neighborsOf
+  neighbors-two Nodes t v h n = absurd (n refl)
+  neighbors-two Edges t v h n =
+      let inside : v < edgeCount ends = omega (arith, t .sized .size) in
       omega (
         arith,
-        x,
-        y,
-        own-at v a m h (t .table) first (inl (sym p)),
-        own-at v b m h (t .table) second (inr (sym q)),
-        stretch-degree m a (t .table) first,
-        ap (degree ends (edgeCount ends)) p,
-        stretch-degree m b (t .table) second,
-        ap (degree ends (edgeCount ends)) q,
-        line-neighbor-count ends (edgeCount ends) v h (λ e. n (p ∙ (e ∙ sym q))),
+        own-at ends v (firstEnd ends v) inside (inl refl),
+        own-at ends v (secondEnd ends v) inside (inr refl),
+        at-first Edges t v h,
+        at-second Edges t v h,
+        line-neighbor-count ends (edgeCount ends) v inside n,
       )
+
+  -- With a graph's own table the neighbours of each item are counted.
+  pub neighbors-counted : (kind : Kind) → Tabled kind ends starts entries items → (v : ℕ) → v < items → neighborCount kind ends starts entries v ≡ length (neighborsOf kind ends v)
+  neighbors-counted kind t v h = elim (dec-eq (firstNode kind ends v) (secondNode kind ends v)) [
+    | inl e ↦ sym (count-one kind ends starts entries v _ _ _ refl refl refl e) ∙ neighbors-one kind t v h e
+    | inr n ↦ sym (count-two kind ends starts entries v _ _ _ refl refl refl n _ refl) ∙ neighbors-two kind t v h n
+  ]
 
 -- ---- the smallest colour that no neighbour has
 
-module _ (kind : Kind) (ends starts entries colors : List ℕ) (v r : ℕ) (t : Tabled kind ends starts entries (length colors)) (h : v < length colors) where
-  pub free-at-node : kind ≡ Nodes → r ≡ smallestFrom 512 (farColors ends colors v (stretch starts entries v)) 0 → r ≡ smallestFreeAt colors (neighborsOf kind ends v)
-  unfolding neighborsOf
-  free-at-node k e = rw k (smallest-color-node (t .sized .nodes) ends starts entries colors v r (t .sized .passed) (t .table) (omega (arith, t .sized .size ∙ ap (λ (x : Kind). itemsOf x (t .sized .nodes) ends) k)) e)
-
-  pub free-at-edge : kind ≡ Edges → colorOf colors v ≡ noColor → (k : ℕ) → k ≡ v
-      → r ≡ smallestFrom 4096 (colorsOf colors (stretch starts entries (firstEnd ends k)) ++ colorsOf colors (stretch starts entries (secondEnd ends k))) 0 → r ≡ smallestFreeAt colors (neighborsOf kind ends v)
-  unfolding neighborsOf
-  free-at-edge q bare k p e =
-      let b : v < edgeCount ends = omega (arith, t .sized .size ∙ ap (λ (x : Kind). itemsOf x (t .sized .nodes) ends) q) in
-      rw q (smallest-color-edge (t .sized .nodes) ends starts entries colors v r (t .sized .passed) (t .table) b bare (rw p at e) ∙ ap (smallestFreeAt colors) (edge-neighbors (t .sized .nodes) ends (t .sized .passed) v b))
+-- With a graph's own table an item without a colour finds the smallest that no neighbour has. A coloured edge finds its own at its ends as well.
+pub free-smallest : (kind : Kind) (ends starts entries colors : List ℕ) → Tabled kind ends starts entries (length colors) → (v r : ℕ) → v < length colors → colorOf colors v ≡ noColor
+    → r ≡ freeColor kind ends starts entries colors v → r ≡ smallestFreeAt colors (neighborsOf kind ends v)
+unfolding freeColor neighborsOf
+free-smallest Nodes ends starts entries colors t v r h bare e = smallest-color-node (t .sized .nodes) ends starts entries colors v r (t .sized .passed) (t .table) (omega (arith, t .sized .size)) e
+free-smallest Edges ends starts entries colors t v r h bare e =
+    let inside : v < edgeCount ends = omega (arith, t .sized .size) in
+    smallest-color-edge (t .sized .nodes) ends starts entries colors v r (t .sized .passed) (t .table) inside bare e ∙ ap (smallestFreeAt colors) (edge-neighbors (t .sized .nodes) ends (t .sized .passed) v inside)

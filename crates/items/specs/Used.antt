@@ -1,13 +1,30 @@
--- Whether an item has a colour, as the code looks for it.
+-- The marks are set if some item has the colour; and whether one has it, as the code looks for it.
 use Prim.Native.Nat.{ℕ, _+_, _≤_, _<_}
 use mathlib.Core.Path.{_≡_, sym}
 use mathlib.Core.List.{List}
-use mathlib.Core.Bool.{true, false}
+use mathlib.Core.Bool.{true, false, cond}
 use native.Mathlib.Numerals.{add-one}
 use lib.ListN.{length, getD, drop, drop-of-length-le}
 use lib.Seq.{drop-cons}
 use borrow.Author.Tests.{eq-eqb, ne-eqb}
 use Rattle.lists.specs.Member.{elem}
+use Rattle.items.specs.declared.Kind.{Kind}
+use Rattle.items.specs.Around.{around}
+use Rattle.items.specs.Stored.{stored}
+use Rattle.items.specs.Marks.{markOf}
+
+module _ (kind : Kind) (ends starts entries colors : List ℕ) (c v : ℕ) (marks : List ℕ) where
+  -- The items around item v get their marks if some item has the colour; one that none has is new to all, and the marks stay.
+  unfoldable pub usedMarks : List ℕ
+  usedMarks = cond (elem c colors) (stored (markOf kind ends starts entries colors c) (around kind ends starts entries v) marks) marks
+
+  pub used-yes : elem c colors ≡ true → usedMarks ≡ stored (markOf kind ends starts entries colors c) (around kind ends starts entries v) marks
+  unfolding usedMarks
+  used-yes t = rw t
+
+  pub used-no : elem c colors ≡ false → usedMarks ≡ marks
+  unfolding usedMarks
+  used-no f = rw f
 
 module _ (c : ℕ) (colors : List ℕ) (v : ℕ) (left : elem c (drop v colors) ≡ elem c colors) where
   pub used-here : v < length colors → getD colors v 0 ≡ c → true ≡ elem c colors

@@ -1,11 +1,7 @@
 // What is coloured: the nodes of a graph, or its edges. A node's neighbours lie across its edges; an edge's are the other edges at its ends.
 // An item is a node of the graph that is coloured: of the graph itself, or of its line graph, whose nodes are the edges.
 ghost use mathlib.Core.Path.{_≡_};
-ghost use Prim.Native.Nat.{_-_, _<_};
-ghost use lib.ListN.{length};
-ghost use Rattle.graph.specs.Stretch.{stretch};
-ghost use Rattle.graph.specs.Colored.{noColor, colorOf, smallestFreeAt};
-ghost use Rattle.items.specs.Items.{firstNode, secondNode, acrossOf, ownOf, neighborsOf, Tabled, Within};
+ghost use Rattle.items.specs.Items.{firstNode, secondNode, acrossOf, countAt, neighborCount, freeColor};
 use graph::Color;
 use graph::EdgeIndex;
 use graph::NodeIndex;
@@ -59,7 +55,7 @@ pub fn across(kind: Kind, ends: &[u16], edge: EdgeIndex, node: NodeIndex) -> Nod
 
 // How many edges stand at a node of an item, an edge itself not counted.
 fn count_at(kind: Kind, starts: &[u16], entries: &[u16], node: NodeIndex) -> usize
-    ensures { λ r. ⌜ r ≡ length (stretch (now (starts .entry)) (now (entries .entry)) (node .0)) - ownOf kind ⌝ }
+    ensures { λ r. ⌜ r ≡ countAt kind (now (starts .entry)) (now (entries .entry)) (node .0) ⌝ }
 {
     let edges = edges_at(starts, entries, node);
     if edges.len() == 0 {
@@ -71,7 +67,7 @@ fn count_at(kind: Kind, starts: &[u16], entries: &[u16], node: NodeIndex) -> usi
     }
 }
 
-// How many neighbours an item of a graph that passed the checks has.
+// How many neighbours the table gives an item. Where the graph passed the checks and the table is its own, it has as many (neighbors-counted).
 pub fn neighbor_count(
     kind: Kind,
     ends: &[u16],
@@ -79,7 +75,7 @@ pub fn neighbor_count(
     entries: &[u16],
     item: NodeIndex,
 ) -> usize
-    ensures { λ r. ⌜ (Within kind (now (ends .entry)) (now (starts .entry)) (now (entries .entry)) (item .0) → r ≡ length (neighborsOf kind (now (ends .entry)) (item .0))) ⌝ }
+    ensures { λ r. ⌜ r ≡ neighborCount kind (now (ends .entry)) (now (starts .entry)) (now (entries .entry)) (item .0) ⌝ }
 {
     let first = first_node(kind, ends, item);
     let second = second_node(kind, ends, item);
@@ -90,7 +86,8 @@ pub fn neighbor_count(
     count + count_at(kind, starts, entries, second)
 }
 
-// The smallest colour that no neighbour has, for an item without a colour.
+// The smallest colour at no far end of a node's edges, or on no edge at an edge's ends. Where the graph passed the checks and the table is its
+// own, it is for an item without a colour the smallest that no neighbour has (free-smallest).
 pub fn free_color(
     kind: Kind,
     ends: &[u16],
@@ -99,8 +96,7 @@ pub fn free_color(
     colors: &[u16],
     item: NodeIndex,
 ) -> Color
-    ensures { λ r. ⌜ (Tabled kind (now (ends .entry)) (now (starts .entry)) (now (entries .entry)) (length (now (colors .entry))) → item .0 < length (now (colors .entry))
-        → colorOf (now (colors .entry)) (item .0) ≡ noColor → r .0 ≡ smallestFreeAt (now (colors .entry)) (neighborsOf kind (now (ends .entry)) (item .0))) ⌝ }
+    ensures { λ r. ⌜ r .0 ≡ freeColor kind (now (ends .entry)) (now (starts .entry)) (now (entries .entry)) (now (colors .entry)) (item .0) ⌝ }
 {
     match kind {
         Kind::Nodes => smallest_color(ends, starts, entries, colors, item),

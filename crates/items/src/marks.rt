@@ -1,13 +1,13 @@
 // The items to which a colour is not new: it stands at one of their nodes. Of the items only those around the one that takes the
 // colour are marked, and each node is asked once.
 ghost use mathlib.Core.Path.{_≡_};
-ghost use mathlib.Core.Bool.{true, false};
 ghost use Rattle.lists.specs.Member.{elem};
 ghost use Rattle.graph.specs.Stretch.{stretch};
 ghost use Rattle.items.specs.Standing.{standsAt};
 ghost use Rattle.items.specs.Around.{acrossAll, around};
 ghost use Rattle.items.specs.Stored.{stored};
 ghost use Rattle.items.specs.Marks.{stands, markOf, Asked};
+ghost use Rattle.items.specs.Used.{usedMarks};
 use crate::Kind;
 use crate::across;
 use crate::first_node;
@@ -208,9 +208,7 @@ pub fn mark_used(
     marks: &mut [u8],
     item: NodeIndex,
 )
-    ensures { λ _. ⌜ (elem (color .0) (now (colors .entry)) ≡ true
-        → now (marks .exit) ≡ stored (markOf kind (now (ends .entry)) (now (starts .entry)) (now (entries .entry)) (now (colors .entry)) (color .0)) (around kind (now (ends .entry)) (now (starts .entry)) (now (entries .entry)) (item .0)) (now (marks .entry))) ⌝ }
-    ensures { λ _. ⌜ (elem (color .0) (now (colors .entry)) ≡ false → now (marks .exit) ≡ now (marks .entry)) ⌝ }
+    ensures { λ _. ⌜ now (marks .exit) ≡ usedMarks kind (now (ends .entry)) (now (starts .entry)) (now (entries .entry)) (now (colors .entry)) (color .0) (item .0) (now (marks .entry)) ⌝ }
 {
     if has_color(colors, color) {
         mark_known(kind, ends, starts, entries, colors, color, marks, item);

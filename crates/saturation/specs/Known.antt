@@ -18,7 +18,9 @@ use Rattle.items.specs.declared.Kind.{Kind}
 use Rattle.items.specs.Items.{firstNode, secondNode, acrossOf, neighborsOf, Sized, Tabled, items-few, across-inside, first-inside, second-inside, NodeOf, neighbor-leading, leading-neighbor}
 use Rattle.items.specs.Standing.{stands-item, item-stands}
 use Rattle.items.specs.Stored.{stored, stored-here}
+use Rattle.items.specs.Around.{around}
 use Rattle.items.specs.Marks.{stands, markOf, bare-mark}
+use Rattle.items.specs.Used.{usedMarks, used-yes, used-no}
 use Rattle.saturation.specs.Counts.{colorsAmong, color-among, among-color}
 
 -- An item among us that has no colour is marked if the colour stands on its neighbours.
@@ -92,10 +94,10 @@ module _ (kind : Kind) (ends starts entries colors : List ℕ) (c : ℕ) (tabled
       }
 
   -- The marks where those are set only if some item has the colour: none has a colour that no item has.
-  pub used-known : (us marks₀ marks : List ℕ) → ((u : ℕ) → getD marks₀ u 0 ≡ 0) → 4096 ≤ length marks₀
-      → (elem c colors ≡ true → marks ≡ stored (markOf kind ends starts entries colors c) us marks₀) × (elem c colors ≡ false → marks ≡ marks₀) → Known us (neighborsOf kind ends) colors c marks
-  used-known us marks₀ marks zeros room set = by-test (elem c colors) (λ t. known us marks₀ marks room (set .0 t)) (λ t. record {
-    old = λ u i h bare n. absurd (n (ap (λ (l : List ℕ). getD l u 0) (set .1 t) ∙ zeros u));
+  pub used-known : (v : ℕ) (marks₀ marks : List ℕ) → ((u : ℕ) → getD marks₀ u 0 ≡ 0) → 4096 ≤ length marks₀ → marks ≡ usedMarks kind ends starts entries colors c v marks₀
+      → Known (around kind ends starts entries v) (neighborsOf kind ends) colors c marks
+  used-known v marks₀ marks zeros room set = by-test (elem c colors) (λ t. known (around kind ends starts entries v) marks₀ marks room (set ∙ used-yes kind ends starts entries colors c v marks₀ t)) (λ t. record {
+    old = λ u i h bare n. absurd (n (ap (λ (l : List ℕ). getD l u 0) (set ∙ used-no kind ends starts entries colors c v marks₀ t) ∙ zeros u));
     marked = λ u i h bare p. let r = among-color colors (neighborsOf kind ends u) c p in absurd (elem-false c colors t (color-member (r .0) (r .2)));
   })
     where

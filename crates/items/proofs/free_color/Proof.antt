@@ -1,14 +1,14 @@
 -- `free_color` meets its contract: the smallest free colour of a node, or of an edge.
 use borrow.Author.Needs.{needs}
-use Rattle.items.specs.Items.{free-at-node, free-at-edge}
+use Rattle.items.specs.Items.{node-free, edge-free}
 use Rattle.items.proofs.free_color.Statement.{statement}
 use Rattle.items.proofs.free_color.Tie as tie
 
 returns : tie.Need-returns
-returns c = λ t h bare. free-at-node _ _ _ _ _ _ _ t h (c .before .enum-told .given .1) (c .smallest-color .ensures)
+returns c = node-free _ _ _ _ _ _ _ (c .before .enum-told .given .1) (c .smallest-color .ensures)
 
 returns-2 : tie.Need-returns-2
-returns-2 c = λ t h bare. free-at-edge _ _ _ _ _ _ _ t h (c .before .before .enum-told2 .given .1) bare _ (c .before .edge-of-node .ensures) (c .smallest-edge-color .ensures)
+returns-2 c = edge-free _ _ _ _ _ _ _ (c .before .before .enum-told2 .given .1) _ (c .before .edge-of-node .ensures) (c .smallest-edge-color .ensures)
 
 pub free-color-spec : {M : Type 1} → statement M
 free-color-spec =

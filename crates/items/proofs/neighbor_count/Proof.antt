@@ -1,18 +1,18 @@
 -- `neighbor_count` meets its contract: the neighbours at one node, or at two.
 use native.Mathlib.Omega.{arith}
 use borrow.Author.Needs.{needs}
-use Rattle.items.specs.Items.{counts-fit, neighbors-one, neighbors-two}
+use Rattle.items.specs.Items.{counts-fit, count-one, count-two}
 use Rattle.items.proofs.neighbor_count.Statement.{statement}
 use Rattle.items.proofs.neighbor_count.Tie as tie
 
 returns : tie.Need-returns
-returns c = λ w. neighbors-one _ _ _ _ _ _ _ _ w (c .before .before .before .before .before .first-node .ensures) (c .before .before .before .before .second-node .ensures) (c .if1 .taken) (c .before .before .before .count-at .ensures)
+returns c = count-one _ _ _ _ _ _ _ _ (c .before .before .before .before .before .first-node .ensures) (c .before .before .before .before .second-node .ensures) (c .before .before .before .count-at .ensures) (c .if1 .taken)
 
 add-result : tie.Need-add-result
 add-result c = omega (arith, counts-fit _ _ _ _ _ _ _ (c .before .before .before .before .before .before .before .before .before .before .good .1 .1 .1 .0 .1) (c .before .before .before .before .count-at .ensures) (c .count-at2 .ensures))
 
 returns-2 : tie.Need-returns-2
-returns-2 c = λ w. neighbors-two _ _ _ _ _ _ _ _ _ w (c .before .before .before .before .before .before .first-node .ensures) (c .before .before .before .before .before .second-node .ensures) (c .before .if1 .left) (c .before .before .before .before .count-at .ensures) (c .count-at2 .ensures)
+returns-2 c = count-two _ _ _ _ _ _ _ _ (c .before .before .before .before .before .before .first-node .ensures) (c .before .before .before .before .before .second-node .ensures) (c .before .before .before .before .count-at .ensures) (c .before .if1 .left) _ (c .count-at2 .ensures)
 
 pub neighbor-count-spec : {M : Type 1} → statement M
 neighbor-count-spec =

@@ -1,11 +1,11 @@
 -- `start` meets its contract. The invariant: the items passed have no colour and wait for all their neighbours.
 use Prim.Native.Nat.{_≤_, _-_}
-use mathlib.Core.Path.{_≡_, refl}
+use mathlib.Core.Path.{_≡_, refl, _∙_}
 use native.Mathlib.Omega.{arith}
 use lib.ListN.{length}
 use borrow.Author.Needs.{needs}
 use Rattle.saturation.specs.Start.{Started, started-none, started-more, started-all, neighbors-few}
-use Rattle.items.specs.Items.{neighborsOf, items-few}
+use Rattle.items.specs.Items.{neighborsOf, items-few, neighbors-counted}
 use Rattle.saturation.proofs.counts.start.Statement.{statement}
 use Rattle.saturation.proofs.counts.start.Tie as tie
 
@@ -22,13 +22,13 @@ cast-waiting : tie.Need-cast-waiting Inv-loop μ-loop
 cast-waiting c = omega (arith, c .loop-test .taken, c .before .loop .inv .1, items-few _ _ _ (c .before .before .before .before .before .before .before .pre .0 .sized))
 
 cast-waiting-2 : tie.Need-cast-waiting-2 Inv-loop μ-loop
-cast-waiting-2 c = omega (arith, neighbors-few _ _ _ _ _ (c .before .before .before .before .before .before .before .before .pre .0) _ _ (omega (arith, c .before .loop-test .taken, c .before .before .loop .inv .1)) (c .neighbor-count .ensures (record { items = _; tabled = c .before .before .before .before .before .before .before .before .pre .0; inside = omega (arith, c .before .loop-test .taken, c .before .before .loop .inv .1) })))
+cast-waiting-2 c = omega (arith, neighbors-few _ _ _ _ _ (c .before .before .before .before .before .before .before .before .pre .0) _ _ (omega (arith, c .before .loop-test .taken, c .before .before .loop .inv .1)) (c .neighbor-count .ensures ∙ neighbors-counted _ _ _ _ _ (c .before .before .before .before .before .before .before .before .pre .0) _ (omega (arith, c .before .loop-test .taken, c .before .before .loop .inv .1))))
 
 loop-less : tie.Need-loop-less Inv-loop μ-loop
 loop-less c = omega (arith, c .before .loop-test .taken, c .before .before .loop .inv .1)
 
 loop-again : tie.Need-loop-again Inv-loop μ-loop
-loop-again c = (omega (arith, c .before .loop-test .taken, c .before .before .loop .inv .1), search needs, search needs, started-more _ _ _ _ _ (c .before .before .loop .inv .3) (c .before .loop-test .taken) (omega (arith, c .before .loop-test .taken, c .before .before .loop .inv .1, c .before .before .loop .inv .2, c .before .before .before .before .before .before .before .before .pre .1)) (c .neighbor-count .ensures (record { items = _; tabled = c .before .before .before .before .before .before .before .before .pre .0; inside = omega (arith, c .before .loop-test .taken, c .before .before .loop .inv .1) })))
+loop-again c = (omega (arith, c .before .loop-test .taken, c .before .before .loop .inv .1), search needs, search needs, started-more _ _ _ _ _ (c .before .before .loop .inv .3) (c .before .loop-test .taken) (omega (arith, c .before .loop-test .taken, c .before .before .loop .inv .1, c .before .before .loop .inv .2, c .before .before .before .before .before .before .before .before .pre .1)) (c .neighbor-count .ensures ∙ neighbors-counted _ _ _ _ _ (c .before .before .before .before .before .before .before .before .pre .0) _ (omega (arith, c .before .loop-test .taken, c .before .before .loop .inv .1))))
 
 returns : tie.Need-returns Inv-loop μ-loop
 returns c = started-all _ _ _ _ _ (c .before .loop .inv .3) (c .before .loop .inv .0) (omega (arith, c .loop-test .left, c .before .loop .inv .1))

@@ -1,6 +1,6 @@
 -- `turn` meets its contract: the chosen item takes the smallest free colour.
 use borrow.Author.Needs.{needs}
-use Rattle.items.specs.Items.{items-few}
+use Rattle.items.specs.Items.{items-few, free-smallest}
 use Rattle.saturation.specs.Turns.{turn-none, turn-chosen}
 use Rattle.saturation.proofs.turns.turn.Statement.{statement}
 use Rattle.saturation.proofs.turns.turn.Tie as tie
@@ -21,7 +21,7 @@ returns-2 c =
     let p = c .before .before .before .before .before .before .before .before .before .before .before .before .before .before .before .before .before .before .before .before .before .before .before .before .before .pre in
     let l = c .before .before .before .before .before .before .before .before .before .before .before .before .before .before .before .choose .ensures .next _ (c .before .before .before .before .before .before .before .before .before .before .before .before .before .item .given .1) in
     let e = c .before .before .before .before .before .before .take-color .ensures in
-    (turn-chosen _ _ _ _ _ _ _ _ (p .counted) l (c .before .before .before .before .before .before .before .before .before .before .free-color .ensures (p .tabled) (l .inside) (l .bare)) (e .0), e .1)
+    (turn-chosen _ _ _ _ _ _ _ _ (p .counted) l (free-smallest _ _ _ _ _ (p .tabled) _ _ (l .inside) (l .bare) (c .before .before .before .before .before .before .before .before .before .before .free-color .ensures)) (e .0), e .1)
 
 pub turn-spec : {M : Type 1} → statement M
 turn-spec =
