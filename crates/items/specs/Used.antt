@@ -1,8 +1,8 @@
 -- The marks are set if some item has the colour; and whether one has it, as the code looks for it.
 use Prim.Native.Nat.{ℕ, _+_, _≤_, _<_}
-use mathlib.Core.Path.{_≡_, sym}
+use mathlib.Core.Path.{_≡_, sym, _∙_}
 use mathlib.Core.List.{List}
-use mathlib.Core.Bool.{true, false, cond}
+use mathlib.Core.Bool.{Bool, true, false, cond}
 use native.Mathlib.Numerals.{add-one}
 use lib.ListN.{length, getD, drop, drop-of-length-le}
 use lib.Seq.{drop-cons}
@@ -25,6 +25,13 @@ module _ (kind : Kind) (ends starts entries colors : List ℕ) (c v : ℕ) (mark
   pub used-no : elem c colors ≡ false → usedMarks ≡ marks
   unfolding usedMarks
   used-no f = rw f
+
+  -- As the code asks.
+  pub used-marked : (after : List ℕ) → after ≡ stored (markOf kind ends starts entries colors c) (around kind ends starts entries v) marks → (r : Bool) → r ≡ elem c colors → r ≡ true → after ≡ usedMarks
+  used-marked after e r p t = e ∙ sym (used-yes (sym p ∙ t))
+
+  pub unused-kept : (r : Bool) → r ≡ elem c colors → r ≡ false → marks ≡ usedMarks
+  unused-kept r p f = sym (used-no (sym p ∙ f))
 
 module _ (c : ℕ) (colors : List ℕ) (v : ℕ) (left : elem c (drop v colors) ≡ elem c colors) where
   pub used-here : v < length colors → getD colors v 0 ≡ c → true ≡ elem c colors

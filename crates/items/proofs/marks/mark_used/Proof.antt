@@ -1,15 +1,14 @@
 -- `mark_used` meets its contract: some item has the colour, and the marks are set, or none has it.
-use mathlib.Core.Path.{sym, _∙_}
 use borrow.Author.Needs.{needs}
-use Rattle.items.specs.Used.{used-yes, used-no}
+use Rattle.items.specs.Used.{used-marked, unused-kept}
 use Rattle.items.proofs.marks.mark_used.Statement.{statement}
 use Rattle.items.proofs.marks.mark_used.Tie as tie
 
 returns : tie.Need-returns
-returns c = c .before .before .mark-known .ensures ∙ sym (used-yes _ _ _ _ _ _ _ _ (sym (c .before .before .before .before .before .has-color .ensures) ∙ c .before .before .before .before .if1 .taken))
+returns c = used-marked _ _ _ _ _ _ _ _ _ (c .before .before .mark-known .ensures) _ (c .before .before .before .before .before .has-color .ensures) (c .before .before .before .before .if1 .taken)
 
 returns-2 : tie.Need-returns-2
-returns-2 c = sym (used-no _ _ _ _ _ _ _ _ (sym (c .before .has-color .ensures) ∙ c .if1 .left))
+returns-2 c = unused-kept _ _ _ _ _ _ _ _ _ (c .before .has-color .ensures) (c .if1 .left)
 
 pub mark-used-spec : {M : Type 1} → statement M
 mark-used-spec =
