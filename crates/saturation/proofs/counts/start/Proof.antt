@@ -28,7 +28,7 @@ loop-less : tie.Need-loop-less Inv-loop μ-loop
 loop-less c = omega (arith, c .before .loop-test .taken, c .before .before .loop .inv .1)
 
 loop-again : tie.Need-loop-again Inv-loop μ-loop
-loop-again c = (omega (arith, c .before .loop-test .taken, c .before .before .loop .inv .1), search needs, search needs, started-more _ _ _ _ _ (c .before .before .loop .inv .3) (c .before .loop-test .taken) (omega (arith, c .before .loop-test .taken, c .before .before .loop .inv .1, c .before .before .loop .inv .2, c .before .before .before .before .before .before .before .before .pre .1)) (c .neighbor-count .ensures ∙ neighbors-counted _ _ _ _ _ (c .before .before .before .before .before .before .before .before .pre .0) _ (omega (arith, c .before .loop-test .taken, c .before .before .loop .inv .1))))
+loop-again c = (omega (arith, c .before .loop-test .taken, c .before .before .loop .inv .1), search needs, search needs, started-more _ _ _ _ _ (c .before .before .loop .inv .3) (omega (arith, c .before .loop-test .taken)) (omega (arith, c .before .loop-test .taken, c .before .before .loop .inv .1, c .before .before .loop .inv .2, c .before .before .before .before .before .before .before .before .pre .1)) (c .neighbor-count .ensures ∙ neighbors-counted _ _ _ _ _ (c .before .before .before .before .before .before .before .before .pre .0) _ (omega (arith, c .before .loop-test .taken, c .before .before .loop .inv .1))))
 
 returns : tie.Need-returns Inv-loop μ-loop
 returns c = started-all _ _ _ _ _ (c .before .loop .inv .3) (c .before .loop .inv .0) (omega (arith, c .loop-test .left, c .before .loop .inv .1))

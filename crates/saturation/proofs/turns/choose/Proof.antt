@@ -1,6 +1,5 @@
 -- `choose` meets its contract. The invariant: no item passed has no colour and both of the greatest counts.
-use Prim.Native.Nat.{_≤_, _-_}
-use native.Mathlib.Omega.{arith}
+use Prim.Native.Nat.{_-_}
 use lib.ListN.{length}
 use borrow.Author.Needs.{needs}
 use Rattle.saturation.specs.Choice.{NoneBelow, none-begin, none-saturated, none-waiting, none-colored, chosen-next, chosen-nothing}
@@ -8,28 +7,30 @@ use Rattle.saturation.proofs.turns.choose.Statement.{statement}
 use Rattle.saturation.proofs.turns.choose.Tie as tie
 
 abbrev Inv-loop : tie.InvT-loop
-Inv-loop colors saturations waiting most longest next₀ next = (next ≤ length colors) × NoneBelow colors saturations waiting most longest next
+Inv-loop colors saturations waiting most longest next₀ next = NoneBelow colors saturations waiting most longest next
 
 abbrev μ-loop : tie.MeasureT-loop
 μ-loop colors saturations waiting most longest next₀ next = length colors - next
 
 loop-holds : tie.Need-loop-holds Inv-loop μ-loop
-loop-holds c = (omega arith, none-begin _ _ _ _ _)
+loop-holds c = none-begin _ _ _ _ _
 
 returns : tie.Need-returns Inv-loop μ-loop
-returns c = chosen-next _ _ _ _ _ (c .before .before .before .before .before .before .before .before .before .greatest .ensures) (c .before .before .before .before .before .before .before .before .greatest-among .ensures) _ (c .before .before .before .before .before .before .before .loop .inv .1) (c .before .before .before .before .before .before .loop-test .taken) (c .before .before .before .before .if1 .taken) (c .before .before .if2 .taken) (c .if3 .taken)
+returns c =
+    let a = c .before .before .before .before .before .before .before .before .before .before .before .before .before .args in
+    chosen-next (a .colors .now) (a .saturations .now) (a .waiting .now) _ _ (c .before .before .before .before .before .before .before .before .before .greatest .ensures) (c .before .before .before .before .before .before .before .before .greatest-among .ensures) _ (c .before .before .before .before .before .before .before .loop .inv) (c .before .before .before .before .before .before .loop-test .taken) (c .before .before .before .before .if1 .taken) (c .before .before .if2 .taken) (c .if3 .taken)
 
 loop-again : tie.Need-loop-again Inv-loop μ-loop
-loop-again c = (omega (arith, c .before .before .before .before .before .before .loop-test .taken), none-colored _ _ _ _ _ _ (c .before .before .before .before .before .before .before .loop .inv .1) (c .before .before .before .before .before .before .loop-test .taken) (c .if3 .left))
+loop-again c = none-colored _ _ _ _ _ _ (c .before .before .before .before .before .before .before .loop .inv) (c .before .before .before .before .before .before .loop-test .taken) (c .if3 .left)
 
 loop-again-2 : tie.Need-loop-again-2 Inv-loop μ-loop
-loop-again-2 c = (omega (arith, c .before .before .before .before .loop-test .taken), none-waiting _ _ _ _ _ _ (c .before .before .before .before .before .loop .inv .1) (c .before .before .before .before .loop-test .taken) (c .if2 .left))
+loop-again-2 c = none-waiting _ _ _ _ _ _ (c .before .before .before .before .before .loop .inv) (c .before .before .before .before .loop-test .taken) (c .if2 .left)
 
 loop-again-3 : tie.Need-loop-again-3 Inv-loop μ-loop
-loop-again-3 c = (omega (arith, c .before .before .loop-test .taken), none-saturated _ _ _ _ _ _ (c .before .before .before .loop .inv .1) (c .before .before .loop-test .taken) (c .if1 .left))
+loop-again-3 c = none-saturated _ _ _ _ _ _ (c .before .before .before .loop .inv) (c .before .before .loop-test .taken) (c .if1 .left)
 
 returns-2 : tie.Need-returns-2 Inv-loop μ-loop
-returns-2 c = chosen-nothing _ _ _ _ _ (c .before .before .before .greatest .ensures) (c .before .before .greatest-among .ensures) (c .before .before .before .before .before .before .before .pre .1) _ (c .before .loop .inv .1) (c .loop-test .left)
+returns-2 c = chosen-nothing _ _ _ _ _ (c .before .before .before .greatest .ensures) (c .before .before .greatest-among .ensures) (c .before .before .before .before .before .before .before .pre .1) _ (c .before .loop .inv) (c .loop-test .left)
 
 pub choose-spec : {M : Type 1} → statement M
 choose-spec =

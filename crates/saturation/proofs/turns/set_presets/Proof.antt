@@ -16,9 +16,6 @@ Inv-loop kind ends starts entries presets colors₀ saturations₀ waiting₀ v�
 abbrev μ-loop : tie.MeasureT-loop
 μ-loop kind ends starts entries presets colors₀ saturations₀ waiting₀ v₀ colors saturations waiting v = length presets - v
 
-cast-t19 : tie.Need-cast-t19 Inv-loop μ-loop
-cast-t19 c = omega (arith, c .before .before .before .loop-test .taken, c .before .before .before .before .before .before .before .before .before .before .before .before .pre .1 .0, c .before .before .before .before .loop .inv .1, items-few _ _ _ (c .before .before .before .before .loop .inv .4 .tabled .sized))
-
 take-color-requires : tie.Need-take-color-requires Inv-loop μ-loop
 take-color-requires c κs =
     let i = c .before .before .before .before .before .loop .inv in
@@ -28,7 +25,7 @@ loop-again : tie.Need-loop-again Inv-loop μ-loop
 loop-again c =
     let i = c .before .before .before .before .before .before .before .before .before .before .before .before .loop .inv in
     let e = c .before .before .before .before .before .before .take-color .ensures in
-    (omega (arith, c .before .before .before .before .before .before .before .before .before .before .before .loop-test .taken), search needs, search needs, search needs, e .1, preset-more _ _ _ _ _ (i .5) (omega (arith, c .before .before .before .before .before .before .before .before .before .before .before .loop-test .taken, c .before .before .before .before .before .before .before .before .before .before .before .before .before .before .before .before .before .before .before .before .pre .1 .0, i .1)) (c .before .before .before .before .before .before .before .before .before .before .before .loop-test .taken) refl (e .0))
+    (omega (arith, c .before .before .before .before .before .before .before .before .before .before .before .loop-test .taken), search needs, search needs, search needs, e .1, preset-more _ _ _ _ _ (i .5) (omega (arith, c .before .before .before .before .before .before .before .before .before .before .before .loop-test .taken, c .before .before .before .before .before .before .before .before .before .before .before .before .before .before .before .before .before .before .before .before .pre .1 .0, i .1)) (omega (arith, c .before .before .before .before .before .before .before .before .before .before .before .loop-test .taken)) refl (e .0))
 
 returns : tie.Need-returns Inv-loop μ-loop
 returns c =
@@ -42,7 +39,7 @@ set-presets-spec =
     Inv-loop
     μ-loop
     (λ c. search needs)
-    cast-t19
+    (λ c. omega (arith, c .before .before .before .loop-test .taken, c .before .before .before .before .before .before .before .before .before .before .before .before .pre .1 .0, c .before .before .before .before .loop .inv .1, items-few _ _ _ (c .before .before .before .before .loop .inv .4 .tabled .sized)))
     (λ c. search needs) (λ c. search needs)
     take-color-requires
     (λ c. search needs) (λ c. search needs)
