@@ -14,7 +14,7 @@ use Rattle.greedy.specs.UncoloredLaws.{uncolored-member, member-uncolored, unco
 use Rattle.greedy.specs.IndependentSet.{takeOut, Lists, putOffAll, Round, putOffPresets, colorListed, round, rounds, independentSetColors}
 use Rattle.greedy.specs.Greedy.{Neighborhood, Greedy}
 use Rattle.independent_set.specs.Rounds.{take-out-length, put-off-length, color-front, color-empty, list-empty}
-use Rattle.listing.specs.ListLaws.{left-member, member-left, left-nodup, Tidy, Moved, put-off-all-moved, ByPreset, put-off-presets-moved}
+use Rattle.independent_set.specs.ListLaws.{left-member, member-left, left-nodup, Tidy, Moved, put-off-all-moved, ByPreset, put-off-presets-moved}
 
 -- Another neighbour of v has colour c.
 abbrev Support : (ℕ → List ℕ) → List ℕ → ℕ → ℕ → Type 0

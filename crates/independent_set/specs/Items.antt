@@ -11,7 +11,7 @@ use Rattle.graph.specs.StretchLaws.{Table}
 use Rattle.greedy.specs.Call.{edgeNeighbors}
 use Rattle.greedy.specs.IndependentSet.{Lists, putOffAll}
 use Rattle.independent_set.specs.declared.items.Items.{Items}
-use Rattle.listing.specs.Listing.{Held}
+use Rattle.independent_set.specs.Listing.{Held}
 
 -- The neighbours of each item, in incidence order.
 unfoldable pub neighborsOf : Items → List ℕ → ℕ → List ℕ

@@ -16,7 +16,7 @@ use Rattle.graph.specs.Colored.{colorOf}
 use Rattle.graph.specs.ColoredLaws.{color-read}
 use Rattle.greedy.specs.Turn.{uncolored}
 use Rattle.greedy.specs.IndependentSet.{takeOut, Lists, putOff, putOffAll, Round, putOffPresets, colorListed, round, rounds, independentSetColors}
-use Rattle.listing.specs.Listing.{Listing, Held, listsAt, lists-held, held-at, put-off-yes, put-off-no, length-items, place-item, item-at, taken-out}
+use Rattle.independent_set.specs.Listing.{Listing, Held, listsAt, lists-held, held-at, put-off-yes, put-off-no, length-items, place-item, item-at, taken-out}
 
 -- ---- a copy of the front
 

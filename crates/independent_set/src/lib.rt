@@ -7,6 +7,7 @@ ghost use Rattle.greedy.specs.Call.{greedyNodes, greedyEdges};
 ghost use Rattle.greedy.specs.IndependentSet.{independentSetColors};
 ghost use Rattle.independent_set.specs.Items.{neighborsOf, countOf};
 use crate::items::Items;
+use crate::list::list_uncolored;
 use graph::Checked;
 use graph::Coloring;
 use graph::copy_colors;
@@ -14,9 +15,11 @@ use graph::days_of;
 use greedy::check_edges;
 use greedy::check_nodes;
 use incidence::incidence_front;
-use listing::list_uncolored;
 
+mod edges;
 mod items;
+mod list;
+mod nodes;
 mod rounds;
 
 // The items of a graph that passed the checks, with a preset and a colour for each.

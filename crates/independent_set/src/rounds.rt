@@ -4,18 +4,18 @@ ghost use Prim.Native.Nat.{_<_};
 ghost use lib.ListN.{length, take};
 ghost use Rattle.greedy.specs.IndependentSet.{putOffAll, putOffPresets, colorListed, rounds};
 ghost use Rattle.independent_set.specs.Items.{neighborsOf, Tabled};
-ghost use Rattle.listing.specs.Listing.{Listing, Held, listsAt};
+ghost use Rattle.independent_set.specs.Listing.{Listing, Held, listsAt};
 ghost use Rattle.independent_set.specs.Rounds.{Rounded};
+use crate::edges::put_off_sharing;
 use crate::items::Items;
+use crate::list::Counts;
+use crate::list::Item;
+use crate::list::take_out;
+use crate::nodes::put_off_far_ends;
 use graph::Color;
 use graph::EdgeIndex;
 use graph::NodeIndex;
 use graph::copy_colors;
-use listing::Counts;
-use listing::Item;
-use listing::put_off_far_ends;
-use listing::put_off_sharing;
-use listing::take_out;
 
 // The listed neighbours of an item are put off, in incidence order.
 fn put_off_neighbors(

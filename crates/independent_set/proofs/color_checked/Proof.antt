@@ -4,7 +4,7 @@ use native.Mathlib.Omega.{arith}
 use borrow.Author.Needs.{needs}
 use Rattle.lists.specs.Parts.{copied-same}
 use Rattle.independent_set.specs.Items.{items-few}
-use Rattle.listing.specs.Listing.{listing-at}
+use Rattle.independent_set.specs.Listing.{listing-at}
 use Rattle.independent_set.specs.Rounds.{colors-answer}
 use Rattle.independent_set.proofs.color_checked.Statement.{statement}
 use Rattle.independent_set.proofs.color_checked.Tie as tie

@@ -3,7 +3,7 @@ use native.Mathlib.Omega.{arith}
 use borrow.Author.Needs.{needs}
 use Rattle.greedy.specs.IndependentSet.{colorListed}
 use Rattle.independent_set.specs.Items.{neighborsOf}
-use Rattle.listing.specs.Listing.{listsAt}
+use Rattle.independent_set.specs.Listing.{listsAt}
 use Rattle.independent_set.specs.Rounds.{Turning, front-below, front-placed, front-taken, turn-done, turn-less, turn-more, turn-start}
 use Rattle.independent_set.proofs.rounds.color_listed.Statement.{statement}
 use Rattle.independent_set.proofs.rounds.color_listed.Tie as tie

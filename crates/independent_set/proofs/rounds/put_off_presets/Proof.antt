@@ -4,7 +4,7 @@ use native.Mathlib.Omega.{arith}
 use borrow.Author.Needs.{needs}
 use Rattle.greedy.specs.IndependentSet.{putOffPresets}
 use Rattle.independent_set.specs.Items.{neighborsOf}
-use Rattle.listing.specs.Listing.{Held, listsAt, held-at}
+use Rattle.independent_set.specs.Listing.{Held, listsAt, held-at}
 use Rattle.independent_set.specs.Rounds.{presets-done, presets-more, presets-none, presets-skip}
 use Rattle.independent_set.proofs.rounds.put_off_presets.Statement.{statement}
 use Rattle.independent_set.proofs.rounds.put_off_presets.Tie as tie

@@ -1,0 +1,152 @@
+-- Putting off the neighbours of an item, as the code goes over them: of a node the far ends of its edges, of an edge the parts of the edges at its ends.
+use Prim.Native.Nat.{ℕ, zero, suc, _+_, _%_, _≤_, _<_}
+use mathlib.Core.Bool.{Bool, true, false, cond}
+use mathlib.Core.List.{List, [], _∷_, _++_, map, reverse, append-assoc, append-nil}
+use mathlib.Core.Path.{_≡_, refl, sym, ap, subst, _∙_}
+use native.Mathlib.Nat.{not-suc-le-zero}
+use native.Mathlib.Numerals.{add-one}
+use native.Mathlib.Omega.{arith}
+use lib.ListN.{length, getD, take}
+use lib.Seq.{take-all}
+use lib.Dec.{eqb, ltb}
+use borrow.Author.Tests.{eq-eqb, ne-eqb, eqb-true}
+use Rattle.lists.specs.Tests.{by-test}
+use Rattle.lists.specs.Member.{Mem, mem-map, mem-getD}
+use Rattle.graph.specs.CheckLaws.{Passed, passed-inside}
+use Rattle.graph.specs.Edges.{edgeCount, farEnd, firstEnd, secondEnd, isLoop, edgesAt, neighbors}
+use Rattle.graph.specs.EdgeLaws.{edge-at, edges-at-nodup}
+use Rattle.graph.specs.NeighborLaws.{neighbors-far-ends, passed-neighbor}
+use Rattle.graph.specs.Stretch.{stretch}
+use Rattle.graph.specs.StretchLaws.{Table}
+use Rattle.line_graph.specs.LineNeighbors.{laterAt, earlierAt, higherEnd, lowerEnd, lineNeighbors}
+use Rattle.line_graph.specs.LineNeighborLaws.{loop-neighbors, apart-neighbors}
+use Rattle.line_graph.specs.PairLaws.{before-member, after-member}
+use Rattle.greedy.specs.Call.{edgeNeighbors}
+use Rattle.greedy.specs.GreedyLaws.{edge-neighbors}
+use Rattle.greedy.specs.IndependentSet.{Lists, putOff, putOffAll}
+use Rattle.independent_set.specs.Listing.{Held, listsAt, lists-held}
+use Rattle.independent_set.specs.Edges.{partIn, put-off-append}
+
+-- ---- the neighbours of a node
+
+put-off-one-more : (f : ℕ → ℕ) (s : Lists) (l : List ℕ) (i : ℕ) → i < length l → putOffAll s (map f (take (suc i) l)) ≡ putOff (putOffAll s (map f (take i l))) (f (getD l i 0))
+unfolding putOffAll
+put-off-one-more f s [] i h = absurd (not-suc-le-zero h)
+put-off-one-more f s (x ∷ l) zero h = refl
+put-off-one-more f s (x ∷ l) (suc i) h = put-off-one-more f (putOff s (f x)) l i (omega arith)
+
+pub neighbors-none : (n : ℕ) (listed place next : List ℕ) (len end : ℕ) (s : Lists) → Held n listed place next len end s → Held n listed place next len end (putOffAll s [])
+unfolding putOffAll
+neighbors-none n listed place next len end s h = h
+
+module _ (n : ℕ) (ends starts entries edges : List ℕ) (v : ℕ) (passed : Passed n ends) (table : Table ends n starts entries) (less : v < n) (e : edges ≡ stretch starts entries v) where
+  edges-same : edges ≡ edgesAt ends (edgeCount ends) v
+  edges-same = e ∙ table .row v less
+
+  pub neighbor-below : (i far : ℕ) → i < length edges → far ≡ farEnd ends (getD edges i 0) v → far < n
+  neighbor-below i far h p =
+      passed-neighbor n ends passed v far
+      (rw (p, neighbors-far-ends ends (edgeCount ends) v, ← edges-same) (mem-map (λ (j : ℕ). farEnd ends j v) (getD edges i 0) edges (mem-getD edges i 0 h)))
+
+  pub neighbors-done : (i : ℕ) (listed place next : List ℕ) (len end : ℕ) (s : Lists) → length edges ≤ i → Held n listed place next len end (putOffAll s (map (λ (j : ℕ). farEnd ends j v) (take i edges)))
+      → Held n listed place next len end (putOffAll s (neighbors ends (edgeCount ends) v))
+  neighbors-done i listed place next len end s b h = rw (neighbors-far-ends ends (edgeCount ends) v, ← edges-same) (rw (take-all i edges b) at h)
+
+pub neighbors-more : (n : ℕ) (ends edges : List ℕ) (v i far : ℕ) (s : Lists) (listed place next : List ℕ) (len end : ℕ) (listed′ place′ next′ : List ℕ) (len′ end′ : ℕ)
+    → Held n listed place next len end (putOffAll s (map (λ (j : ℕ). farEnd ends j v) (take i edges))) → i < length edges → far ≡ farEnd ends (getD edges i 0) v
+    → Held n listed′ place′ next′ len′ end′ (putOff (listsAt listed next len end) far)
+    → Held n listed′ place′ next′ len′ end′ (putOffAll s (map (λ (j : ℕ). farEnd ends j v) (take (i + 1) edges)))
+neighbors-more n ends edges v i far s listed place next len end listed′ place′ next′ len′ end′ h b p k =
+    rw (add-one i, put-off-one-more (λ (j : ℕ). farEnd ends j v) s edges i b, ← p) (rw (lists-held n listed place next len end (putOffAll s (map (λ (j : ℕ). farEnd ends j v) (take i edges))) h) at k)
+
+-- ---- the parts of the edges that share an end with an edge
+
+-- The part of a turn, given the edges at each node: after edge k at its higher end, then at its lower; then before it, the same way. A loop has one end only.
+unfoldable pub partAt : (ℕ → List ℕ) → List ℕ → ℕ → ℕ → List ℕ
+partAt at ends k turn =
+    let part : ℕ → List ℕ = λ v. partIn (ltb turn 2) k (at v) in
+    cond (eqb (turn % 2) 0) (part (higherEnd ends k)) (cond (isLoop ends k) [] (part (lowerEnd ends k)))
+
+-- The parts of the turns below one, each last first.
+unfoldable pub partsTo : (ℕ → List ℕ) → List ℕ → ℕ → ℕ → List ℕ
+partsTo at ends k zero = []
+partsTo at ends k (suc turn) = partsTo at ends k turn ++ reverse (partAt at ends k turn)
+
+ends-cases : (P : ℕ → ℕ → Type 0) (ends : List ℕ) (k : ℕ) → P (secondEnd ends k) (firstEnd ends k) → P (firstEnd ends k) (secondEnd ends k) → P (higherEnd ends k) (lowerEnd ends k)
+unfolding higherEnd lowerEnd
+ends-cases P ends k x y = by-test (ltb (firstEnd ends k) (secondEnd ends k)) (λ t. rw t x) (λ t. rw t y)
+
+same-loop : (ends : List ℕ) (k : ℕ) → higherEnd ends k ≡ lowerEnd ends k → isLoop ends k ≡ true
+unfolding isLoop
+same-loop ends k = ends-cases (λ (a b : ℕ). a ≡ b → isLoop ends k ≡ true) ends k (λ e. eq-eqb (firstEnd ends k) (secondEnd ends k) (sym e)) (λ e. eq-eqb (firstEnd ends k) (secondEnd ends k) e)
+
+other-apart : (ends : List ℕ) (k : ℕ) → (higherEnd ends k ≡ lowerEnd ends k → ⊥) → isLoop ends k ≡ false
+unfolding isLoop
+other-apart ends k = ends-cases (λ (a b : ℕ). (a ≡ b → ⊥) → isLoop ends k ≡ false) ends k (λ d. ne-eqb (firstEnd ends k) (secondEnd ends k) (λ e. d (sym e))) (λ d. ne-eqb (firstEnd ends k) (secondEnd ends k) d)
+
+loop-higher : (ends : List ℕ) (k : ℕ) → isLoop ends k ≡ true → higherEnd ends k ≡ firstEnd ends k
+unfolding isLoop
+loop-higher ends k t = ends-cases (λ (a b : ℕ). a ≡ firstEnd ends k) ends k (sym (eqb-true (firstEnd ends k) (secondEnd ends k) t)) refl
+
+-- The part of a turn as the code finds it.
+module _ (at : ℕ → List ℕ) (ends : List ℕ) (k turn a b : ℕ) (edges part : List ℕ) (p : a ≡ higherEnd ends k) (q : b ≡ lowerEnd ends k) where
+  pub part-higher : turn % 2 ≡ 0 → edges ≡ at a → part ≡ partIn (ltb turn 2) k edges → part ≡ partAt at ends k turn
+  unfolding partAt
+  part-higher t e f = rw (eq-eqb (turn % 2) 0 t, ← p, ← e) f
+
+  pub part-lower : (turn % 2 ≡ 0 → ⊥) → (a ≡ b → ⊥) → edges ≡ at b → part ≡ partIn (ltb turn 2) k edges → part ≡ partAt at ends k turn
+  unfolding partAt
+  part-lower t d e f = rw (ne-eqb (turn % 2) 0 t, other-apart ends k (λ r. d (p ∙ (r ∙ sym q))), ← q, ← e) f
+
+pub part-none : (at : ℕ → List ℕ) (ends : List ℕ) (k turn a b : ℕ) → a ≡ higherEnd ends k → b ≡ lowerEnd ends k → (turn % 2 ≡ 0 → ⊥) → a ≡ b → [] ≡ partAt at ends k turn
+unfolding partAt
+part-none at ends k turn a b p q t e = rw (ne-eqb (turn % 2) 0 t, same-loop ends k (sym p ∙ (e ∙ q)))
+
+part-member : (later : Bool) (ends : List ℕ) (k v j : ℕ) → Mem j (partIn later k (edgesAt ends (edgeCount ends) v)) → j < edgeCount ends
+unfolding partIn
+part-member true ends k v j p = edge-at ends (edgeCount ends) v j (after-member k j (edgesAt ends (edgeCount ends) v) (edges-at-nodup ends (edgeCount ends) v) p .0) .0
+part-member false ends k v j p = edge-at ends (edgeCount ends) v j (before-member k j (edgesAt ends (edgeCount ends) v) p .0) .0
+
+-- Over a table the edges at a node are those of the graph.
+module _ (n : ℕ) (ends starts entries : List ℕ) (k : ℕ) (passed : Passed n ends) (table : Table ends n starts entries) (less : k < edgeCount ends) where
+  row-higher : stretch starts entries (higherEnd ends k) ≡ edgesAt ends (edgeCount ends) (higherEnd ends k)
+  row-higher = table .row (higherEnd ends k) (ends-cases (λ (x y : ℕ). x < n) ends k (passed-inside n ends passed k less .1) (passed-inside n ends passed k less .0))
+
+  row-lower : stretch starts entries (lowerEnd ends k) ≡ edgesAt ends (edgeCount ends) (lowerEnd ends k)
+  row-lower = table .row (lowerEnd ends k) (ends-cases (λ (x y : ℕ). y < n) ends k (passed-inside n ends passed k less .0) (passed-inside n ends passed k less .1))
+
+  pub part-below : (turn : ℕ) (part : List ℕ) → part ≡ partAt (stretch starts entries) ends k turn → (j : ℕ) → Mem j part → j < edgeCount ends
+  unfolding partAt
+  part-below turn part e j m =
+      let p : Mem j (partAt (stretch starts entries) ends k turn) = subst (Mem j) e m in
+      by-test (eqb (turn % 2) 0)
+      (λ t. part-member (ltb turn 2) ends k (higherEnd ends k) j (rw (t, row-higher) at p))
+      (λ t. by-test (isLoop ends k)
+      (λ u. absurd (rw (t, u) at p))
+      (λ u. part-member (ltb turn 2) ends k (lowerEnd ends k) j (rw (t, u, row-lower) at p)))
+
+  parts-line : partsTo (stretch starts entries) ends k 4 ≡ lineNeighbors ends (edgeCount ends) k
+  unfolding partsTo partAt partIn laterAt earlierAt
+  parts-line = rw (row-higher, row-lower) (by-test (isLoop ends k)
+      (λ t. rw (t, loop-higher ends k t) (simp append-nil (sym (loop-neighbors ends (edgeCount ends) k t))))
+      (λ t. rw t (simp append-assoc (simp append-assoc at (sym (apart-neighbors ends (edgeCount ends) k t))))))
+
+  pub parts-all : partsTo (stretch starts entries) ends k 4 ≡ edgeNeighbors n ends k
+  parts-all = parts-line ∙ sym (edge-neighbors n ends passed k less)
+
+-- ---- putting off part by part
+
+module _ (m : ℕ) (s : Lists) (listed place next : List ℕ) (len end : ℕ) (at : ℕ → List ℕ) (ends : List ℕ) (k : ℕ) where
+  pub parts-none : Held m listed place next len end s → Held m listed place next len end (putOffAll s (partsTo at ends k 0))
+  unfolding partsTo putOffAll
+  parts-none h = h
+
+  pub parts-more : (turn : ℕ) (part : List ℕ) → part ≡ partAt at ends k turn → Held m listed place next len end (putOffAll s (partsTo at ends k turn))
+      → (listed′ place′ next′ : List ℕ) (len′ end′ : ℕ) → Held m listed′ place′ next′ len′ end′ (putOffAll (listsAt listed next len end) (reverse part))
+      → Held m listed′ place′ next′ len′ end′ (putOffAll s (partsTo at ends k (turn + 1)))
+  unfolding partsTo
+  parts-more turn part e h listed′ place′ next′ len′ end′ g =
+      rw (add-one turn, ← e, put-off-append s (partsTo at ends k turn) (reverse part)) (rw (lists-held m listed place next len end (putOffAll s (partsTo at ends k turn)) h) at g)
+
+  pub parts-done : (turn : ℕ) (all : List ℕ) → turn ≤ 4 → 4 ≤ turn → partsTo at ends k 4 ≡ all → Held m listed place next len end (putOffAll s (partsTo at ends k turn)) → Held m listed place next len end (putOffAll s all)
+  parts-done turn all a b e h = let f : turn ≡ 4 = omega arith in subst (λ (l : List ℕ). Held m listed place next len end (putOffAll s l)) (ap (partsTo at ends k) f ∙ e) h

@@ -1,0 +1,149 @@
+// The neighbours of an edge, told from the edges at its ends: those after it at the higher end, last first, then at the lower, then
+// those before it, the same way. A loop has one end only.
+ghost use mathlib.Core.Path.{_≡_};
+ghost use mathlib.Core.List.{reverse};
+ghost use Prim.Native.Nat.{ℕ, _<_};
+ghost use Rattle.lists.specs.Member.{Mem};
+ghost use Rattle.graph.specs.CheckLaws.{Passed};
+ghost use Rattle.graph.specs.Edges.{edgeCount};
+ghost use Rattle.graph.specs.Stretch.{stretch};
+ghost use Rattle.graph.specs.StretchLaws.{Table};
+ghost use Rattle.line_graph.specs.LineNeighbors.{higherEnd, lowerEnd};
+ghost use Rattle.greedy.specs.Call.{edgeNeighbors};
+ghost use Rattle.greedy.specs.IndependentSet.{placeOf, putOffAll};
+ghost use Rattle.independent_set.specs.Listing.{Sized, Held, listsAt};
+ghost use Rattle.independent_set.specs.Edges.{partIn};
+ghost use Rattle.independent_set.specs.Neighbors.{partAt};
+use crate::list::Counts;
+use crate::list::Item;
+use crate::list::cannot_hold;
+use crate::list::put_off;
+use graph::EdgeIndex;
+use graph::NodeIndex;
+use graph::edges_at;
+use graph::end_at;
+
+// Where an edge stands among these, their end if it does not.
+fn place_of(edges: &[u16], edge: EdgeIndex) -> usize
+    ensures { λ r. ⌜ r ≡ placeOf (edge .0) (now (edges .entry)) ⌝ }
+{
+    let mut i = 0;
+    while i < edges.len() {
+        if edges[i] == edge.0 {
+            return i;
+        }
+        i += 1;
+    }
+    i
+}
+
+// Of these edges those after an edge, or those before it.
+fn part_of<'a>(edges: &'a [u16], edge: EdgeIndex, later: bool) -> &'a [u16]
+    ensures { λ r. ⌜ now r ≡ partIn later (edge .0) (now (edges .entry)) ⌝ }
+{
+    let at = place_of(edges, edge);
+    if later {
+        if at < edges.len() {
+            return &edges[at + 1..];
+        }
+        return &edges[0..0];
+    }
+    &edges[..at]
+}
+
+// The listed ones of these edges are put off, last first.
+fn put_off_part(
+    edges: &[u16],
+    listed: &mut [u16],
+    place: &mut [u16],
+    next: &mut [u16],
+    counts: Counts,
+) -> Counts
+    requires { ⌜ Sized (now listed) (now place) (now next) (counts .listed) (counts .next) ⌝ }
+    ensures { λ r. ⌜ Sized (now (listed .exit)) (now (place .exit)) (now (next .exit)) (r .listed) (r .next) ⌝ }
+    ensures { λ r. ⌜ ((n : ℕ) → Held n (now (listed .entry)) (now (place .entry)) (now (next .entry)) (counts .listed) (counts .next) (listsAt (now (listed .entry)) (now (next .entry)) (counts .listed) (counts .next))
+        → ((j : ℕ) → Mem j (now (edges .entry)) → j < n)
+        → Held n (now (listed .exit)) (now (place .exit)) (now (next .exit)) (r .listed) (r .next) (putOffAll (listsAt (now (listed .entry)) (now (next .entry)) (counts .listed) (counts .next)) (reverse (now (edges .entry))))) ⌝ }
+{
+    let mut reached = counts;
+    let mut i = edges.len();
+    while 0 < i {
+        i -= 1;
+        reached = put_off(listed, place, next, reached, Item(edges[i]));
+    }
+    reached
+}
+
+// An edge's ends in order, equal for a loop.
+struct EdgeEnds {
+    pub higher: NodeIndex,
+    pub lower: NodeIndex,
+}
+
+fn ends_of(ends: &[u16], edge: EdgeIndex) -> EdgeEnds
+    ensures { λ r. ⌜ (r .higher .0 ≡ higherEnd (now (ends .entry)) (edge .0)) × (r .lower .0 ≡ lowerEnd (now (ends .entry)) (edge .0)) ⌝ }
+{
+    let k = edge.0 as usize;
+    let first = end_at(ends, 2 * k);
+    let second = end_at(ends, 2 * k + 1);
+    if first.0 < second.0 {
+        return EdgeEnds {
+            higher: second,
+            lower: first,
+        };
+    }
+    EdgeEnds {
+        higher: first,
+        lower: second,
+    }
+}
+
+// One of the four parts of the edges that share an end with an edge, in the order in which they are put off.
+fn part_at<'a>(
+    ends: &[u16],
+    starts: &[u16],
+    entries: &'a [u16],
+    edge: EdgeIndex,
+    turn: usize,
+) -> &'a [u16]
+    ensures { λ r. ⌜ now r ≡ partAt (stretch (now (starts .entry)) (now (entries .entry))) (now (ends .entry)) (edge .0) turn ⌝ }
+{
+    let both = ends_of(ends, edge);
+    let later = turn < 2;
+    if turn % 2 == 0 {
+        return part_of(edges_at(starts, entries, both.higher), edge, later);
+    }
+    if both.higher.0 == both.lower.0 {
+        return &entries[0..0];
+    }
+    part_of(edges_at(starts, entries, both.lower), edge, later)
+}
+
+// The listed edges that share an end with an edge are put off, in the order of the line list.
+pub(crate) fn put_off_sharing(
+    ends: &[u16],
+    starts: &[u16],
+    entries: &[u16],
+    listed: &mut [u16],
+    place: &mut [u16],
+    next: &mut [u16],
+    counts: Counts,
+    edge: EdgeIndex,
+) -> Counts
+    ensures { λ r. ⌜ ((n : ℕ) → Passed n (now (ends .entry)) → Table (now (ends .entry)) n (now (starts .entry)) (now (entries .entry)) → edge .0 < edgeCount (now (ends .entry))
+        → Held (edgeCount (now (ends .entry))) (now (listed .entry)) (now (place .entry)) (now (next .entry)) (counts .listed) (counts .next) (listsAt (now (listed .entry)) (now (next .entry)) (counts .listed) (counts .next))
+        → Held (edgeCount (now (ends .entry))) (now (listed .exit)) (now (place .exit)) (now (next .exit)) (r .listed) (r .next)
+        (putOffAll (listsAt (now (listed .entry)) (now (next .entry)) (counts .listed) (counts .next)) (edgeNeighbors n (now (ends .entry)) (edge .0)))) ⌝ }
+{
+    let mut reached = counts;
+    if cannot_hold(listed.len(), place.len(), next.len(), counts) {
+        return reached;
+    }
+    let mut turn = 0;
+    while turn < 4 {
+        let part = part_at(ends, starts, entries, edge, turn);
+        reached = put_off_part(part, listed, place, next, reached);
+        turn += 1;
+    }
+    reached
+}

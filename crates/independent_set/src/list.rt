@@ -1,0 +1,141 @@
+// The list of uncoloured items: an array of items with a length, and each listed item's place in it. Places are never cleared: an
+// item is listed if its place is below the length and the item stands there. Where an index would lie outside a slice nothing is
+// changed: that is so only where the slices hold no such list.
+ghost use mathlib.Core.Path.{_≡_};
+ghost use mathlib.Core.Bool.{true, false};
+ghost use Prim.Native.Nat.{ℕ, _+_, _-_, _≤_, _<_};
+ghost use lib.ListN.{length, getD, set, take};
+ghost use Rattle.greedy.specs.Turn.{uncolored};
+ghost use Rattle.greedy.specs.IndependentSet.{putOff};
+ghost use Rattle.independent_set.specs.Listing.{Listing, Sized, Held, listsAt};
+use graph::Color;
+
+// An item's number, a node's or an edge's.
+pub struct Item(pub u16);
+
+// How many items are listed, and how many are put off to the next round.
+pub struct Counts {
+    pub listed: usize,
+    pub next: usize,
+}
+
+// Lists the items without a colour, rising; how many they are.
+pub(crate) fn list_uncolored(presets: &[u16], listed: &mut [u16], place: &mut [u16]) -> usize
+    ensures { λ r. ⌜ ((n : ℕ) → n ≤ 4096 → length (now (presets .entry)) ≡ n → length (now (listed .entry)) ≡ 4096 → length (now (place .entry)) ≡ 4096
+        → Listing n (now (listed .exit)) (now (place .exit)) r (uncolored (now (presets .entry)) n)) ⌝ }
+{
+    let n = presets.len();
+    if 4096 < n {
+        return 0;
+    }
+    if listed.len() < n {
+        return 0;
+    }
+    if place.len() < n {
+        return 0;
+    }
+    let mut len = 0;
+    let mut v = 0;
+    while v < n {
+        let item = v;
+        v += 1;
+        if presets[item] == Color::NONE {
+            listed[len] = item as u16;
+            place[item] = len as u16;
+            len += 1;
+        }
+    }
+    len
+}
+
+// Takes a listed item out: the last of the list goes to its place.
+pub(crate) fn take_out(listed: &mut [u16], place: &mut [u16], len: usize, item: Item)
+    ensures { λ _. ⌜ ((n : ℕ) → Listing n (now (listed .entry)) (now (place .entry)) len (take len (now (listed .entry))) → item .0 < n → getD (now (place .entry)) (item .0) 0 < len
+        → (now (listed .exit) ≡ set (now (listed .entry)) (getD (now (place .entry)) (item .0) 0) (getD (now (listed .entry)) (len - 1) 0))
+        × (now (place .exit) ≡ set (now (place .entry)) (getD (now (listed .entry)) (len - 1) 0) (getD (now (place .entry)) (item .0) 0))) ⌝ }
+{
+    let v = item.0 as usize;
+    if place.len() <= v {
+        return;
+    }
+    let hole = place[v];
+    let at = hole as usize;
+    if len <= at {
+        return;
+    }
+    if listed.len() < len {
+        return;
+    }
+    let last = listed[len - 1];
+    let moved = last as usize;
+    if place.len() <= moved {
+        return;
+    }
+    listed[at] = last;
+    place[moved] = hole;
+}
+
+// Whether slices of these lengths cannot hold the lists that are counted. It is asked once, before a walk, so that a step of the walk
+// asks only about the numbers that it meets.
+pub(crate) fn cannot_hold(listed: usize, place: usize, next: usize, counts: Counts) -> bool
+    ensures { λ r. ⌜ (r ≡ true → listed ≡ 4096 → place ≡ 4096 → next ≡ 4096 → counts .listed + counts .next ≤ 4096 → ⊥) ⌝ }
+    ensures { λ r. ⌜ (r ≡ false → (listed ≡ 4096) × (place ≡ 4096) × (next ≡ 4096) × (counts .listed + counts .next ≤ 4096)) ⌝ }
+{
+    if listed != 4096 {
+        return true;
+    }
+    if place != 4096 {
+        return true;
+    }
+    if next != 4096 {
+        return true;
+    }
+    let len = counts.listed;
+    let end = counts.next;
+    if 4096 < len {
+        return true;
+    }
+    4096 - len < end
+}
+
+// A listed item is taken out and goes to the end of the next list.
+pub(crate) fn put_off(
+    listed: &mut [u16],
+    place: &mut [u16],
+    next: &mut [u16],
+    counts: Counts,
+    item: Item,
+) -> Counts
+    requires { ⌜ Sized (now listed) (now place) (now next) (counts .listed) (counts .next) ⌝ }
+    ensures { λ r. ⌜ Sized (now (listed .exit)) (now (place .exit)) (now (next .exit)) (r .listed) (r .next) ⌝ }
+    ensures { λ r. ⌜ ((n : ℕ) → Held n (now (listed .entry)) (now (place .entry)) (now (next .entry)) (counts .listed) (counts .next) (listsAt (now (listed .entry)) (now (next .entry)) (counts .listed) (counts .next)) → item .0 < n
+        → Held n (now (listed .exit)) (now (place .exit)) (now (next .exit)) (r .listed) (r .next) (putOff (listsAt (now (listed .entry)) (now (next .entry)) (counts .listed) (counts .next)) (item .0))) ⌝ }
+{
+    let len = counts.listed;
+    let end = counts.next;
+    let v = item.0 as usize;
+    if 4096 <= v {
+        return counts;
+    }
+    let hole = place[v];
+    let here = hole as usize;
+    if len <= here {
+        return counts;
+    }
+    if listed[here] != item.0 {
+        return counts;
+    }
+    let last = listed[len - 1];
+    let moved = last as usize;
+    if 4096 <= moved {
+        return counts;
+    }
+    listed[here] = last;
+    place[moved] = hole;
+    next[end] = item.0;
+    place[v] = end as u16;
+    Counts {
+        listed: len - 1,
+        next: end + 1,
+    }
+}
