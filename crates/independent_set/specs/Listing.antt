@@ -53,12 +53,8 @@ lists-held n listed place next len end s h = ap₂ (λ (a b : List ℕ). record 
 pub held-at : (n : ℕ) (listed place next : List ℕ) (len end : ℕ) (s : Lists) → Held n listed place next len end s → Held n listed place next len end (listsAt listed next len end)
 held-at n listed place next len end s h = rw (lists-held n listed place next len end s h) h
 
-pub listing-at : (n : ℕ) (listed place : List ℕ) (len : ℕ) (items : List ℕ) → Listing n listed place len items → Listing n listed place len (take len listed)
-listing-at n listed place len items l = rw (l .held) l
-
--- So lists that are held never fail that test.
-pub held-sized : (n : ℕ) (listed place next : List ℕ) (len end : ℕ) (s : Lists) → Held n listed place next len end s → (length listed ≡ 4096 → length place ≡ 4096 → length next ≡ 4096 → len + end ≤ 4096 → ⊥) → ⊥
-held-sized n listed place next len end s h d = d (h .first .size) (h .first .places) (h .second .size) (omega (arith, h .total, h .first .few))
+pub listing-at : (m n : ℕ) (listed place : List ℕ) (len : ℕ) (items : List ℕ) → m ≡ n → Listing m listed place len items → Listing n listed place len (take len listed)
+listing-at m n listed place len items e l = rw (← e, l .held) l
 
 -- ---- one list
 

@@ -133,8 +133,11 @@ module _ (n : ℕ) (nb : ℕ → List ℕ) (r : ℕ) (listed place next : List �
     pub front-below : getD listed 0 0 < n
     front-below = turning .held .first .inside 0 more
 
-    pub front-placed : getD place (getD listed 0 0) 0 < len
-    front-placed = omega (arith, turning .held .first .placed 0 more)
+    -- What taking it out asks.
+    pub front-inside : (getD listed 0 0 < length place) × (getD place (getD listed 0 0) 0 < len) × (len ≤ length listed) × (getD listed (len - 1) 0 < length place)
+    front-inside =
+        let l = turning .held .first in
+        (omega (arith, front-below, l .places, l .few), omega (arith, l .placed 0 more), omega (arith, l .size, l .few, l .room), omega (arith, l .inside (len - 1) (omega arith), l .places, l .few))
 
     front-member : Mem (getD listed 0 0) (take len listed)
     front-member = place-item n listed place len (take len listed) (turning .held .first) 0 more
@@ -259,7 +262,7 @@ module _ (n : ℕ) (nb : ℕ → List ℕ) (presets listed place next : List ℕ
       }
 
 -- The answer of the whole call.
-pub colors-answer : (n : ℕ) (nb : ℕ → List ℕ) (presets listed place : List ℕ) (len : ℕ) (colors answer : List ℕ) → Listing n listed place len (uncolored presets n) → colors ≡ presets
+pub colors-answer : (n : ℕ) (nb : ℕ → List ℕ) (presets listed place : List ℕ) (len : ℕ) (colors answer : List ℕ) → length presets ≡ n → Listing (length presets) listed place len (uncolored presets (length presets)) → colors ≡ presets
     → answer ≡ rounds nb n presets n 0 (take len listed) colors → answer ≡ independentSetColors nb n presets
 unfolding independentSetColors
-colors-answer n nb presets listed place len colors answer l p e = e ∙ (ap (λ (x : List ℕ). rounds nb n presets n 0 x colors) (l .held) ∙ ap (λ (x : List ℕ). rounds nb n presets n 0 (uncolored presets n) x) p)
+colors-answer n nb presets listed place len colors answer s l p e = e ∙ ap₂ (λ (x y : List ℕ). rounds nb n presets n 0 x y) (l .held ∙ ap (uncolored presets) s) p

@@ -16,7 +16,6 @@ ghost use Rattle.independent_set.specs.Edges.{partIn};
 ghost use Rattle.independent_set.specs.Neighbors.{partAt};
 use crate::list::Counts;
 use crate::list::Item;
-use crate::list::cannot_hold;
 use crate::list::put_off;
 use graph::EdgeIndex;
 use graph::NodeIndex;
@@ -130,15 +129,13 @@ pub(crate) fn put_off_sharing(
     counts: Counts,
     edge: EdgeIndex,
 ) -> Counts
+    requires { ⌜ Sized (now listed) (now place) (now next) (counts .listed) (counts .next) ⌝ }
     ensures { λ r. ⌜ ((n : ℕ) → Passed n (now (ends .entry)) → Table (now (ends .entry)) n (now (starts .entry)) (now (entries .entry)) → edge .0 < edgeCount (now (ends .entry))
         → Held (edgeCount (now (ends .entry))) (now (listed .entry)) (now (place .entry)) (now (next .entry)) (counts .listed) (counts .next) (listsAt (now (listed .entry)) (now (next .entry)) (counts .listed) (counts .next))
         → Held (edgeCount (now (ends .entry))) (now (listed .exit)) (now (place .exit)) (now (next .exit)) (r .listed) (r .next)
         (putOffAll (listsAt (now (listed .entry)) (now (next .entry)) (counts .listed) (counts .next)) (edgeNeighbors n (now (ends .entry)) (edge .0)))) ⌝ }
 {
     let mut reached = counts;
-    if cannot_hold(listed.len(), place.len(), next.len(), counts) {
-        return reached;
-    }
     let mut turn = 0;
     while turn < 4 {
         let part = part_at(ends, starts, entries, edge, turn);

@@ -1,10 +1,8 @@
 // The list of uncoloured items: an array of items with a length, and each listed item's place in it. Places are never cleared: an
-// item is listed if its place is below the length and the item stands there. Where an index would lie outside a slice nothing is
-// changed: that is so only where the slices hold no such list.
+// item is listed if its place is below the length and the item stands there.
 ghost use mathlib.Core.Path.{_≡_};
-ghost use mathlib.Core.Bool.{true, false};
-ghost use Prim.Native.Nat.{ℕ, _+_, _-_, _≤_, _<_};
-ghost use lib.ListN.{length, getD, set, take};
+ghost use Prim.Native.Nat.{ℕ, _-_, _≤_, _<_};
+ghost use lib.ListN.{length, getD, set};
 ghost use Rattle.greedy.specs.Turn.{uncolored};
 ghost use Rattle.greedy.specs.IndependentSet.{putOff};
 ghost use Rattle.independent_set.specs.Listing.{Listing, Sized, Held, listsAt};
@@ -21,22 +19,12 @@ pub struct Counts {
 
 // Lists the items without a colour, rising; how many they are.
 pub(crate) fn list_uncolored(presets: &[u16], listed: &mut [u16], place: &mut [u16]) -> usize
-    ensures { λ r. ⌜ ((n : ℕ) → n ≤ 4096 → length (now (presets .entry)) ≡ n → length (now (listed .entry)) ≡ 4096 → length (now (place .entry)) ≡ 4096
-        → Listing n (now (listed .exit)) (now (place .exit)) r (uncolored (now (presets .entry)) n)) ⌝ }
+    requires { ⌜ (length (now presets) ≤ 4096) × (length (now listed) ≡ 4096) × (length (now place) ≡ 4096) ⌝ }
+    ensures { λ r. ⌜ Listing (length (now (presets .entry))) (now (listed .exit)) (now (place .exit)) r (uncolored (now (presets .entry)) (length (now (presets .entry)))) ⌝ }
 {
-    let n = presets.len();
-    if 4096 < n {
-        return 0;
-    }
-    if listed.len() < n {
-        return 0;
-    }
-    if place.len() < n {
-        return 0;
-    }
     let mut len = 0;
     let mut v = 0;
-    while v < n {
+    while v < presets.len() {
         let item = v;
         v += 1;
         if presets[item] == Color::NONE {
@@ -50,55 +38,18 @@ pub(crate) fn list_uncolored(presets: &[u16], listed: &mut [u16], place: &mut [u
 
 // Takes a listed item out: the last of the list goes to its place.
 pub(crate) fn take_out(listed: &mut [u16], place: &mut [u16], len: usize, item: Item)
-    ensures { λ _. ⌜ ((n : ℕ) → Listing n (now (listed .entry)) (now (place .entry)) len (take len (now (listed .entry))) → item .0 < n → getD (now (place .entry)) (item .0) 0 < len
-        → (now (listed .exit) ≡ set (now (listed .entry)) (getD (now (place .entry)) (item .0) 0) (getD (now (listed .entry)) (len - 1) 0))
-        × (now (place .exit) ≡ set (now (place .entry)) (getD (now (listed .entry)) (len - 1) 0) (getD (now (place .entry)) (item .0) 0))) ⌝ }
+    requires { ⌜ (item .0 < length (now place)) × (getD (now place) (item .0) 0 < len) × (len ≤ length (now listed)) × (getD (now listed) (len - 1) 0 < length (now place)) ⌝ }
+    ensures { λ _. ⌜ (now (listed .exit) ≡ set (now (listed .entry)) (getD (now (place .entry)) (item .0) 0) (getD (now (listed .entry)) (len - 1) 0))
+        × (now (place .exit) ≡ set (now (place .entry)) (getD (now (listed .entry)) (len - 1) 0) (getD (now (place .entry)) (item .0) 0)) ⌝ }
 {
-    let v = item.0 as usize;
-    if place.len() <= v {
-        return;
-    }
-    let hole = place[v];
-    let at = hole as usize;
-    if len <= at {
-        return;
-    }
-    if listed.len() < len {
-        return;
-    }
+    let hole = place[item.0 as usize];
     let last = listed[len - 1];
-    let moved = last as usize;
-    if place.len() <= moved {
-        return;
-    }
-    listed[at] = last;
-    place[moved] = hole;
+    listed[hole as usize] = last;
+    place[last as usize] = hole;
 }
 
-// Whether slices of these lengths cannot hold the lists that are counted. It is asked once, before a walk, so that a step of the walk
-// asks only about the numbers that it meets.
-pub(crate) fn cannot_hold(listed: usize, place: usize, next: usize, counts: Counts) -> bool
-    ensures { λ r. ⌜ (r ≡ true → listed ≡ 4096 → place ≡ 4096 → next ≡ 4096 → counts .listed + counts .next ≤ 4096 → ⊥) ⌝ }
-    ensures { λ r. ⌜ (r ≡ false → (listed ≡ 4096) × (place ≡ 4096) × (next ≡ 4096) × (counts .listed + counts .next ≤ 4096)) ⌝ }
-{
-    if listed != 4096 {
-        return true;
-    }
-    if place != 4096 {
-        return true;
-    }
-    if next != 4096 {
-        return true;
-    }
-    let len = counts.listed;
-    let end = counts.next;
-    if 4096 < len {
-        return true;
-    }
-    4096 - len < end
-}
-
-// A listed item is taken out and goes to the end of the next list.
+// A listed item is taken out and goes to the end of the next list. That a number is below 4,096 is tested, not asked: the walks do not
+// look whether the numbers that they meet are.
 pub(crate) fn put_off(
     listed: &mut [u16],
     place: &mut [u16],

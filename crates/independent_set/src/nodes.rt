@@ -4,10 +4,9 @@ ghost use Rattle.graph.specs.CheckLaws.{Passed};
 ghost use Rattle.graph.specs.Edges.{edgeCount, neighbors};
 ghost use Rattle.graph.specs.StretchLaws.{Table};
 ghost use Rattle.greedy.specs.IndependentSet.{putOffAll};
-ghost use Rattle.independent_set.specs.Listing.{Held, listsAt};
+ghost use Rattle.independent_set.specs.Listing.{Sized, Held, listsAt};
 use crate::list::Counts;
 use crate::list::Item;
-use crate::list::cannot_hold;
 use crate::list::put_off;
 use graph::EdgeIndex;
 use graph::NodeIndex;
@@ -25,15 +24,13 @@ pub(crate) fn put_off_far_ends(
     counts: Counts,
     node: NodeIndex,
 ) -> Counts
+    requires { ⌜ Sized (now listed) (now place) (now next) (counts .listed) (counts .next) ⌝ }
     ensures { λ r. ⌜ ((n : ℕ) → Passed n (now (ends .entry)) → Table (now (ends .entry)) n (now (starts .entry)) (now (entries .entry)) → node .0 < n
         → Held n (now (listed .entry)) (now (place .entry)) (now (next .entry)) (counts .listed) (counts .next) (listsAt (now (listed .entry)) (now (next .entry)) (counts .listed) (counts .next))
         → Held n (now (listed .exit)) (now (place .exit)) (now (next .exit)) (r .listed) (r .next)
         (putOffAll (listsAt (now (listed .entry)) (now (next .entry)) (counts .listed) (counts .next)) (neighbors (now (ends .entry)) (edgeCount (now (ends .entry))) (node .0)))) ⌝ }
 {
     let mut reached = counts;
-    if cannot_hold(listed.len(), place.len(), next.len(), counts) {
-        return reached;
-    }
     let edges = edges_at(starts, entries, node);
     let mut i = 0;
     while i < edges.len() {

@@ -7,7 +7,7 @@ use Rattle.graph.specs.Edges.{edgeCount}
 use Rattle.graph.specs.Stretch.{stretch}
 use Rattle.graph.specs.StretchLaws.{Table}
 use Rattle.greedy.specs.IndependentSet.{putOffAll}
-use Rattle.independent_set.specs.Listing.{Sized, Held, listsAt, held-at, held-sized}
+use Rattle.independent_set.specs.Listing.{Sized, Held, listsAt, held-at}
 use Rattle.independent_set.specs.Neighbors.{partsTo, part-below, parts-all, parts-done, parts-more, parts-none}
 use Rattle.independent_set.proofs.edges.put_off_sharing.Statement.{statement}
 use Rattle.independent_set.proofs.edges.put_off_sharing.Tie as tie
@@ -21,11 +21,8 @@ Inv-loop ends starts entries listed₀ place₀ next₀ edge reached₀ turn₀ 
 abbrev μ-loop : tie.MeasureT-loop
 μ-loop ends starts entries listed₀ place₀ next₀ edge reached₀ turn₀ listed place next reached turn = 4 - turn
 
-returns : tie.Need-returns Inv-loop μ-loop
-returns c = λ n p t b h. absurd (held-sized _ _ _ _ _ _ _ h (c .before .cannot-hold .ensures .0 (c .if1 .taken)))
-
 loop-holds : tie.Need-loop-holds Inv-loop μ-loop
-loop-holds c = let s = c .before .cannot-hold .ensures .1 (c .if1 .left) in (omega arith, record { first = s .0; places = s .1; second = s .2; total = s .3 }, λ n p t b h. parts-none _ _ _ _ _ _ _ _ _ _ h)
+loop-holds c = (omega arith, c .before .before .before .before .before .before .pre, λ n p t b h. parts-none _ _ _ _ _ _ _ _ _ _ h)
 
 put-off-part-requires : tie.Need-put-off-part-requires Inv-loop μ-loop
 put-off-part-requires c κs = c .before .before .before .before .before .loop .inv .1
@@ -39,17 +36,8 @@ loop-again c = (
       parts-more _ _ _ _ _ _ _ _ _ _ _ _ (c .before .before .before .before .before .before .before .before .before .before .part-at .ensures) k _ _ _ _ _ (c .before .before .before .before .before .before .put-off-part .ensures .1 _ (held-at _ _ _ _ _ _ _ k) (part-below _ _ _ _ _ p t b _ _ (c .before .before .before .before .before .before .before .before .before .before .part-at .ensures))),
 )
 
-same-length : tie.Need-same-length Inv-loop μ-loop
-same-length c = omega (arith, c .before .before .before .cannot-hold .ensures .1 (c .before .before .if1 .left) .0)
-
-same-length-2 : tie.Need-same-length-2 Inv-loop μ-loop
-same-length-2 c = omega (arith, c .before .before .before .cannot-hold .ensures .1 (c .before .before .if1 .left) .1)
-
-same-length-3 : tie.Need-same-length-3 Inv-loop μ-loop
-same-length-3 c = omega (arith, c .before .before .before .cannot-hold .ensures .1 (c .before .before .if1 .left) .2)
-
-returns-2 : tie.Need-returns-2 Inv-loop μ-loop
-returns-2 c = λ n p t b h. parts-done _ _ _ _ _ _ _ _ _ _ _ _ (c .before .loop .inv .0) (c .loop-test .left) (parts-all _ _ _ _ _ p t b) (c .before .loop .inv .2 n p t b h)
+returns : tie.Need-returns Inv-loop μ-loop
+returns c = λ n p t b h. parts-done _ _ _ _ _ _ _ _ _ _ _ _ (c .before .loop .inv .0) (c .loop-test .left) (parts-all _ _ _ _ _ p t b) (c .before .loop .inv .2 n p t b h)
 
 pub put-off-sharing-spec : {M : Type 1} → statement M
 put-off-sharing-spec =
@@ -57,14 +45,10 @@ put-off-sharing-spec =
     (tie.spec
     Inv-loop
     μ-loop
-    (λ c κs. search needs)
-    returns
     loop-holds
     (λ c κs. search needs)
     put-off-part-requires
     (λ c. search needs) (λ c. search needs)
     loop-again
-    same-length
-    same-length-2
-    same-length-3
-    returns-2)
+    (λ c. search needs) (λ c. search needs) (λ c. search needs)
+    returns)

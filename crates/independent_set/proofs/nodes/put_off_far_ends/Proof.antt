@@ -8,7 +8,7 @@ use Rattle.graph.specs.CheckLaws.{Passed}
 use Rattle.graph.specs.Edges.{farEnd}
 use Rattle.graph.specs.StretchLaws.{Table}
 use Rattle.greedy.specs.IndependentSet.{putOffAll}
-use Rattle.independent_set.specs.Listing.{Sized, Held, listsAt, held-at, held-sized}
+use Rattle.independent_set.specs.Listing.{Sized, Held, listsAt, held-at}
 use Rattle.independent_set.specs.Neighbors.{neighbor-below, neighbors-done, neighbors-more, neighbors-none}
 use Rattle.independent_set.proofs.nodes.put_off_far_ends.Statement.{statement}
 use Rattle.independent_set.proofs.nodes.put_off_far_ends.Tie as tie
@@ -22,11 +22,8 @@ Inv-loop ends starts entries listed₀ place₀ next₀ node reached₀ edges i�
 abbrev μ-loop : tie.MeasureT-loop
 μ-loop ends starts entries listed₀ place₀ next₀ node reached₀ edges i₀ listed place next reached i = length edges - i
 
-returns : tie.Need-returns Inv-loop μ-loop
-returns c = λ n p t b h. absurd (held-sized _ _ _ _ _ _ _ h (c .before .cannot-hold .ensures .0 (c .if1 .taken)))
-
 loop-holds : tie.Need-loop-holds Inv-loop μ-loop
-loop-holds c = let s = c .before .before .cannot-hold .ensures .1 (c .before .if1 .left) in (omega arith, record { first = s .0; places = s .1; second = s .2; total = s .3 }, λ n p t b h. neighbors-none _ _ _ _ _ _ _ h)
+loop-holds c = (omega arith, c .before .before .before .before .before .before .before .pre, λ n p t b h. neighbors-none _ _ _ _ _ _ _ h)
 
 put-off-requires : tie.Need-put-off-requires Inv-loop μ-loop
 put-off-requires c κs = c .before .before .before .before .before .before .loop .inv .1
@@ -41,17 +38,8 @@ loop-again c = (
       neighbors-more _ _ _ _ _ _ _ _ _ _ _ _ _ _ _ _ _ k (c .before .before .before .before .before .before .before .before .before .before .before .before .loop-test .taken) (c .before .before .before .before .before .before .before .before .before .before .far-end .ensures) (c .before .before .before .before .before .before .put-off .ensures .1 n (held-at _ _ _ _ _ _ _ k) far),
 )
 
-same-length : tie.Need-same-length Inv-loop μ-loop
-same-length c = omega (arith, c .before .before .before .before .cannot-hold .ensures .1 (c .before .before .before .if1 .left) .0)
-
-same-length-2 : tie.Need-same-length-2 Inv-loop μ-loop
-same-length-2 c = omega (arith, c .before .before .before .before .cannot-hold .ensures .1 (c .before .before .before .if1 .left) .1)
-
-same-length-3 : tie.Need-same-length-3 Inv-loop μ-loop
-same-length-3 c = omega (arith, c .before .before .before .before .cannot-hold .ensures .1 (c .before .before .before .if1 .left) .2)
-
-returns-2 : tie.Need-returns-2 Inv-loop μ-loop
-returns-2 c = λ n p t b h. neighbors-done _ _ _ _ _ _ p t b (c .before .before .edges-at .ensures .0) _ _ _ _ _ _ _ (c .loop-test .left) (c .before .loop .inv .2 n p t b h)
+returns : tie.Need-returns Inv-loop μ-loop
+returns c = λ n p t b h. neighbors-done _ _ _ _ _ _ p t b (c .before .before .edges-at .ensures .0) _ _ _ _ _ _ _ (c .loop-test .left) (c .before .loop .inv .2 n p t b h)
 
 pub put-off-far-ends-spec : {M : Type 1} → statement M
 put-off-far-ends-spec =
@@ -60,15 +48,11 @@ put-off-far-ends-spec =
     Inv-loop
     μ-loop
     (λ c κs. search needs)
-    returns
-    (λ c κs. search needs)
     loop-holds
     (λ c. search needs) (λ c. search needs)
     (λ c κs. search needs)
     put-off-requires
     (λ c. search needs) (λ c. search needs)
     loop-again
-    same-length
-    same-length-2
-    same-length-3
-    returns-2)
+    (λ c. search needs) (λ c. search needs) (λ c. search needs)
+    returns)

@@ -4,7 +4,7 @@ use borrow.Author.Needs.{needs}
 use Rattle.greedy.specs.IndependentSet.{colorListed}
 use Rattle.independent_set.specs.Items.{neighborsOf}
 use Rattle.independent_set.specs.Listing.{listsAt}
-use Rattle.independent_set.specs.Rounds.{Turning, front-below, front-placed, front-taken, turn-done, turn-less, turn-more, turn-start}
+use Rattle.independent_set.specs.Rounds.{Turning, front-below, front-inside, front-taken, turn-done, turn-less, turn-more, turn-start}
 use Rattle.independent_set.proofs.rounds.color_listed.Statement.{statement}
 use Rattle.independent_set.proofs.rounds.color_listed.Tie as tie
 
@@ -29,28 +29,28 @@ mul-colors c = omega (arith, front-below _ _ _ _ _ _ _ _ _ _ (c .before .before 
 slice-write-colors : tie.Need-slice-write-colors Inv-loop μ-loop
 slice-write-colors c = omega (arith, front-below _ _ _ _ _ _ _ _ _ _ (c .before .before .before .before .loop .inv) (c .before .before .if1 .taken), c .before .before .before .before .loop .inv .size)
 
+take-out-requires : tie.Need-take-out-requires Inv-loop μ-loop
+take-out-requires c κs = front-inside _ _ _ _ _ _ _ _ _ _ (c .before .before .before .before .before .before .loop .inv) (c .before .before .before .before .if1 .taken)
+
 put-off-neighbors-requires : tie.Need-put-off-neighbors-requires Inv-loop μ-loop
 put-off-neighbors-requires c κs =
     let v = c .before .before .before .before .before .before .before .before .before .before .before .before .before .before .loop .inv in
     let t = c .before .before .before .before .before .before .before .before .before .before .before .before .if1 .taken in
-    let b = front-below _ _ _ _ _ _ _ _ _ _ v t in
-    let o = c .before .before .before .before .before .before .before .take-out .ensures _ (v .held .first) b (front-placed _ _ _ _ _ _ _ _ _ _ v t) in
-    (c .before .before .before .before .before .before .before .before .before .before .before .before .before .before .before .before .before .before .before .before .before .before .pre .0, (front-taken _ _ _ _ _ _ _ _ _ _ v t _ _ (o .0) (o .1), b))
+    let o = c .before .before .before .before .before .before .before .take-out .ensures in
+    (c .before .before .before .before .before .before .before .before .before .before .before .before .before .before .before .before .before .before .before .before .before .before .pre .0, (front-taken _ _ _ _ _ _ _ _ _ _ v t _ _ (o .0) (o .1), front-below _ _ _ _ _ _ _ _ _ _ v t))
 
 loop-less : tie.Need-loop-less Inv-loop μ-loop
 loop-less c =
     let v = c .before .before .before .before .before .before .before .before .before .before .before .before .before .before .before .before .before .before .before .before .before .loop .inv in
     let t = c .before .before .before .before .before .before .before .before .before .before .before .before .before .before .before .before .before .before .before .if1 .taken in
-    let b = front-below _ _ _ _ _ _ _ _ _ _ v t in
-    let o = c .before .before .before .before .before .before .before .before .before .before .before .before .before .before .take-out .ensures _ (v .held .first) b (front-placed _ _ _ _ _ _ _ _ _ _ v t) in
+    let o = c .before .before .before .before .before .before .before .before .before .before .before .before .before .before .take-out .ensures in
     turn-less _ _ _ _ _ _ _ _ _ _ v t _ _ (o .0) (o .1) _ _ _ _ _ (c .before .before .before .before .before .before .put-off-neighbors .ensures)
 
 loop-again : tie.Need-loop-again Inv-loop μ-loop
 loop-again c =
     let v = c .before .before .before .before .before .before .before .before .before .before .before .before .before .before .before .before .before .before .before .before .before .loop .inv in
     let t = c .before .before .before .before .before .before .before .before .before .before .before .before .before .before .before .before .before .before .before .if1 .taken in
-    let b = front-below _ _ _ _ _ _ _ _ _ _ v t in
-    let o = c .before .before .before .before .before .before .before .before .before .before .before .before .before .before .take-out .ensures _ (v .held .first) b (front-placed _ _ _ _ _ _ _ _ _ _ v t) in
+    let o = c .before .before .before .before .before .before .before .before .before .before .before .before .before .before .take-out .ensures in
     turn-more _ _ _ _ _ _ _ _ _ _ v t _ _ (o .0) (o .1) _ _ _ _ _ (c .before .before .before .before .before .before .put-off-neighbors .ensures)
 
 returns : tie.Need-returns Inv-loop μ-loop
@@ -67,7 +67,7 @@ color-listed-spec =
     cast-v
     mul-colors
     slice-write-colors
-    (λ c κs. search needs)
+    take-out-requires
     (λ c. search needs)
     put-off-neighbors-requires
     loop-less
