@@ -103,11 +103,11 @@ module _ (m : ℕ) (s : Lists) (listed place next : List ℕ) (len end : ℕ) wh
   part-done edges i b h = let e : i ≡ 0 = omega arith in rw e at h
 
   pub part-more : (edges : List ℕ) (i : ℕ) → 0 < i → i ≤ length edges → Held m listed place next len end (putOffAll s (reverse (drop i edges)))
-      → (listed′ place′ next′ : List ℕ) (len′ end′ : ℕ) → Held m listed′ place′ next′ len′ end′ (putOff (listsAt listed next len end) (getD edges (i - 1) 0))
+      → (v : ℕ) → v ≡ getD edges (i - 1) 0 → (listed′ place′ next′ : List ℕ) (len′ end′ : ℕ) → Held m listed′ place′ next′ len′ end′ (putOff (listsAt listed next len end) v)
       → Held m listed′ place′ next′ len′ end′ (putOffAll s (reverse (drop (i - 1) edges)))
-  part-more edges i a b h listed′ place′ next′ len′ end′ k =
+  part-more edges i a b h v p listed′ place′ next′ len′ end′ k =
       let e : suc (i - 1) ≡ i = omega arith in
-      rw (drop-cons edges (i - 1) 0 (omega arith), put-off-last s (drop (suc (i - 1)) edges) (getD edges (i - 1) 0), e) (rw (lists-held m listed place next len end (putOffAll s (reverse (drop i edges))) h) at k)
+      rw (drop-cons edges (i - 1) 0 (omega arith), put-off-last s (drop (suc (i - 1)) edges) (getD edges (i - 1) 0), e, ← p) (rw (lists-held m listed place next len end (putOffAll s (reverse (drop i edges))) h) at k)
 
 -- ---- the ends of an edge
 

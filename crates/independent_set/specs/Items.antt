@@ -35,13 +35,13 @@ items-few items ends p e = by-test (items .edges) (λ t. omega (arith, rw t at e
 
 module _ (items : Items) (ends starts entries : List ℕ) (known : Tabled items ends starts entries) (s : Lists) (listed place next listed′ place′ next′ : List ℕ) (len end len′ end′ v : ℕ)
     (held : Held (items .count) listed place next len end s) (less : v < items .count) where
-  pub edges-left : items .edges ≡ true
-      → ((n : ℕ) → Passed n ends → Table ends n starts entries → v < edgeCount ends → Held (edgeCount ends) listed place next len end s → Held (edgeCount ends) listed′ place′ next′ len′ end′ (putOffAll s (edgeNeighbors n ends v)))
+  pub edges-left : items .edges ≡ true → (k : ℕ) → k ≡ v
+      → ((n : ℕ) → Passed n ends → Table ends n starts entries → k < edgeCount ends → Held (edgeCount ends) listed place next len end s → Held (edgeCount ends) listed′ place′ next′ len′ end′ (putOffAll s (edgeNeighbors n ends k)))
       → Held (items .count) listed′ place′ next′ len′ end′ (putOffAll s (neighborsOf items ends v))
   unfolding neighborsOf countOf
-  edges-left e walk =
+  edges-left e k same walk =
       let all : items .count ≡ edgeCount ends = rw e at (known .all) in
-      rw (all, e) (walk (items .nodes) (known .passed) (known .table) (rw all at less) (rw all at held))
+      rw (all, e, ← same) (walk (items .nodes) (known .passed) (known .table) (omega (arith, rw all at less)) (rw all at held))
 
   pub nodes-left : items .edges ≡ false
       → ((n : ℕ) → Passed n ends → Table ends n starts entries → v < n → Held n listed place next len end s → Held n listed′ place′ next′ len′ end′ (putOffAll s (neighbors ends (edgeCount ends) v)))

@@ -15,12 +15,12 @@ ghost use Rattle.independent_set.specs.Listing.{Sized, Held, listsAt};
 ghost use Rattle.independent_set.specs.Edges.{partIn};
 ghost use Rattle.independent_set.specs.Neighbors.{partAt};
 use crate::list::Counts;
-use crate::list::Item;
 use crate::list::put_off;
 use graph::EdgeIndex;
 use graph::NodeIndex;
 use graph::edges_at;
 use graph::end_at;
+use line_graph::node_of_edge;
 
 // Where an edge stands among these, their end if it does not.
 fn place_of(edges: &[u16], edge: EdgeIndex) -> usize
@@ -68,7 +68,8 @@ fn put_off_part(
     let mut i = edges.len();
     while 0 < i {
         i -= 1;
-        reached = put_off(listed, place, next, reached, Item(edges[i]));
+        let item = node_of_edge(EdgeIndex(edges[i]));
+        reached = put_off(listed, place, next, reached, item);
     }
     reached
 }

@@ -1,5 +1,6 @@
 // The list of uncoloured items: an array of items with a length, and each listed item's place in it. Places are never cleared: an
-// item is listed if its place is below the length and the item stands there.
+// item is listed if its place is below the length and the item stands there. An item is a node of the graph that is coloured: the graph
+// itself, or its line graph.
 ghost use mathlib.Core.Path.{_≡_};
 ghost use Prim.Native.Nat.{ℕ, _-_, _≤_, _<_};
 ghost use lib.ListN.{length, getD, set};
@@ -7,9 +8,7 @@ ghost use Rattle.greedy.specs.Turn.{uncolored};
 ghost use Rattle.greedy.specs.IndependentSet.{putOff};
 ghost use Rattle.independent_set.specs.Listing.{Listing, Sized, Held, listsAt};
 use graph::Color;
-
-// An item's number, a node's or an edge's.
-pub struct Item(pub u16);
+use graph::NodeIndex;
 
 // How many items are listed, and how many are put off to the next round.
 pub struct Counts {
@@ -37,7 +36,7 @@ pub(crate) fn list_uncolored(presets: &[u16], listed: &mut [u16], place: &mut [u
 }
 
 // Takes a listed item out: the last of the list goes to its place.
-pub(crate) fn take_out(listed: &mut [u16], place: &mut [u16], len: usize, item: Item)
+pub(crate) fn take_out(listed: &mut [u16], place: &mut [u16], len: usize, item: NodeIndex)
     requires { ⌜ (item .0 < length (now place)) × (getD (now place) (item .0) 0 < len) × (len ≤ length (now listed)) × (getD (now listed) (len - 1) 0 < length (now place)) ⌝ }
     ensures { λ _. ⌜ (now (listed .exit) ≡ set (now (listed .entry)) (getD (now (place .entry)) (item .0) 0) (getD (now (listed .entry)) (len - 1) 0))
         × (now (place .exit) ≡ set (now (place .entry)) (getD (now (listed .entry)) (len - 1) 0) (getD (now (place .entry)) (item .0) 0)) ⌝ }
@@ -55,7 +54,7 @@ pub(crate) fn put_off(
     place: &mut [u16],
     next: &mut [u16],
     counts: Counts,
-    item: Item,
+    item: NodeIndex,
 ) -> Counts
     requires { ⌜ Sized (now listed) (now place) (now next) (counts .listed) (counts .next) ⌝ }
     ensures { λ r. ⌜ Sized (now (listed .exit)) (now (place .exit)) (now (next .exit)) (r .listed) (r .next) ⌝ }

@@ -6,7 +6,6 @@ ghost use Rattle.graph.specs.StretchLaws.{Table};
 ghost use Rattle.greedy.specs.IndependentSet.{putOffAll};
 ghost use Rattle.independent_set.specs.Listing.{Sized, Held, listsAt};
 use crate::list::Counts;
-use crate::list::Item;
 use crate::list::put_off;
 use graph::EdgeIndex;
 use graph::NodeIndex;
@@ -35,7 +34,7 @@ pub(crate) fn put_off_far_ends(
     let mut i = 0;
     while i < edges.len() {
         let far = far_end(ends, EdgeIndex(edges[i]), node);
-        reached = put_off(listed, place, next, reached, Item(far.0));
+        reached = put_off(listed, place, next, reached, far);
         i += 1;
     }
     reached

@@ -9,13 +9,12 @@ ghost use Rattle.independent_set.specs.Rounds.{Rounded};
 use crate::edges::put_off_sharing;
 use crate::items::Items;
 use crate::list::Counts;
-use crate::list::Item;
 use crate::list::take_out;
 use crate::nodes::put_off_far_ends;
 use graph::Color;
-use graph::EdgeIndex;
 use graph::NodeIndex;
 use graph::copy_colors;
+use line_graph::edge_of_node;
 
 // The listed neighbours of an item are put off, in incidence order.
 fn put_off_neighbors(
@@ -27,7 +26,7 @@ fn put_off_neighbors(
     place: &mut [u16],
     next: &mut [u16],
     counts: Counts,
-    item: Item,
+    item: NodeIndex,
 ) -> Counts
     requires { ⌜ Tabled items (now ends) (now starts) (now entries) ⌝ }
     requires { ⌜ Held (items .count) (now listed) (now place) (now next) (counts .listed) (counts .next) (listsAt (now listed) (now next) (counts .listed) (counts .next)) ⌝ }
@@ -36,11 +35,10 @@ fn put_off_neighbors(
         (putOffAll (listsAt (now (listed .entry)) (now (next .entry)) (counts .listed) (counts .next)) (neighborsOf items (now (ends .entry)) (item .0))) ⌝ }
 {
     if items.edges {
-        let edge = EdgeIndex(item.0);
+        let edge = edge_of_node(item);
         return put_off_sharing(ends, starts, entries, listed, place, next, counts, edge);
     }
-    let node = NodeIndex(item.0);
-    put_off_far_ends(ends, starts, entries, listed, place, next, counts, node)
+    put_off_far_ends(ends, starts, entries, listed, place, next, counts, item)
 }
 
 // The listed neighbours of the presets of a colour are put off.
@@ -77,7 +75,7 @@ fn put_off_presets(
                 place,
                 next,
                 reached,
-                Item(item as u16),
+                NodeIndex(item as u16),
             );
         }
     }
@@ -108,7 +106,7 @@ fn color_listed(
     while 0 < reached.listed {
         let len = reached.listed;
         let end = reached.next;
-        let front = Item(listed[0]);
+        let front = NodeIndex(listed[0]);
         let v = front.0 as usize;
         colors[v] = color.0;
         take_out(listed, place, len, front);

@@ -24,17 +24,19 @@ loop-holds : tie.Need-loop-holds Inv-loop μ-loop
 loop-holds c = (omega arith, c .before .before .before .before .pre, λ n h b. part-start _ _ _ _ _ _ _ (c .before .before .before .before .args .edges .now) h)
 
 put-off-requires : tie.Need-put-off-requires Inv-loop μ-loop
-put-off-requires c κs = c .before .before .before .before .before .loop .inv .1
+put-off-requires c κs = c .before .before .before .before .before .before .loop .inv .1
 
 loop-again : tie.Need-loop-again Inv-loop μ-loop
-loop-again c = (
-  omega arith,
-  c .before .before .before .before .before .before .put-off .ensures .0,
-  λ n h b.
-      let k = c .before .before .before .before .before .before .before .before .before .before .before .before .loop .inv .2 n h b in
-      part-more _ _ _ _ _ _ _ _ _ (c .before .before .before .before .before .before .before .before .before .before .before .loop-test .taken) (c .before .before .before .before .before .before .before .before .before .before .before .before .loop .inv .0) k _ _ _ _ _
-      (c .before .before .before .before .before .before .put-off .ensures .1 n (held-at _ _ _ _ _ _ _ k) (b _ (mem-getD (c .before .before .before .before .before .before .before .before .before .before .before .before .before .before .before .before .before .args .edges .now) (c .before .before .before .before .before .before .before .before .before .before .before .before .loop .i - 1) 0 (omega arith)))),
-)
+loop-again c =
+    let l = c .before .before .before .before .before .before .before .before .before .before .before .before .before .loop in
+    let e = c .before .before .before .before .before .before .before .before .before .before .node-of-edge .ensures in (
+      omega arith,
+      c .before .before .before .before .before .before .put-off .ensures .0,
+      λ n h b.
+          let k = l .inv .2 n h b in
+          part-more _ _ _ _ _ _ _ _ _ (c .before .before .before .before .before .before .before .before .before .before .before .before .loop-test .taken) (l .inv .0) k _ e _ _ _ _ _
+          (c .before .before .before .before .before .before .put-off .ensures .1 n (held-at _ _ _ _ _ _ _ k) (b _ (rw e (mem-getD (c .before .before .before .before .before .before .before .before .before .before .before .before .before .before .before .before .before .before .args .edges .now) (l .i - 1) 0 (omega arith))))),
+    )
 
 returns : tie.Need-returns Inv-loop μ-loop
 returns c = (c .before .loop .inv .1, λ n h b. part-done _ _ _ _ _ _ _ _ _ (c .loop-test .left) (c .before .loop .inv .2 n h b))
@@ -46,7 +48,7 @@ put-off-part-spec =
     Inv-loop
     μ-loop
     loop-holds
-    (λ c. search needs) (λ c. search needs) (λ c. search needs)
+    (λ c. search needs) (λ c. search needs) (λ c. search needs) (λ c κs. search needs)
     put-off-requires
     (λ c. search needs)
     loop-again
