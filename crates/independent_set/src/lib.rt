@@ -88,9 +88,8 @@ pub fn color_edges(n: usize, ends: &[u16], presets: &[u16], colors: &mut [u16]) 
                 count: ends.len() / 2,
             };
             color_checked(items, ends, presets, colors);
-            Coloring::Accepted {
-                days: days_of(colors),
-            }
+            let count = days_of(colors);
+            Coloring::Accepted { days: count }
         }
     }
 }

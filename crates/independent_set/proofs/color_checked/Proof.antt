@@ -24,9 +24,7 @@ color-rounds-requires c κs =
     )
 
 returns : tie.Need-returns
-returns c =
-    let pre = c .before .before .before .before .before .before .before .before .before .before .before .before .before .before .before .before .before .before .before .before .before .before .before .before .before .before .before .before .before .pre .1 in
-    colors-answer _ _ _ _ _ _ _ _ (pre .1) (c .before .before .before .before .before .before .before .before .before .before .before .before .before .before .list-uncolored .ensures) (c .before .before .before .before .before .before .before .before .before .before .before .before .before .before .before .before .before .before .before .copy-colors .ensures ∙ copied-same _ _ (pre .2 ∙ sym (pre .1))) (c .before .before .before .before .before .color-rounds .ensures)
+returns c = colors-answer _ _ _ _ _ _ _ _ (c .before .before .before .before .before .before .before .before .before .before .before .before .before .before .before .before .before .before .before .before .before .before .before .before .before .before .before .before .before .pre .1 .1) (c .before .before .before .before .before .before .before .before .before .before .before .before .before .before .list-uncolored .ensures) (c .before .before .before .before .before .before .before .before .before .before .before .before .before .before .before .before .before .before .before .copy-colors .ensures ∙ copied-same _ _ (c .before .before .before .before .before .before .before .before .before .before .before .before .before .before .before .before .before .before .before .before .before .before .before .before .before .before .before .before .before .pre .1 .2 ∙ sym (c .before .before .before .before .before .before .before .before .before .before .before .before .before .before .before .before .before .before .before .before .before .before .before .before .before .before .before .before .before .pre .1 .1))) (c .before .before .before .before .before .color-rounds .ensures)
 
 pub color-checked-spec : {M : Type 1} → statement M
 color-checked-spec =
