@@ -16,6 +16,9 @@ Inv-loop ends starts entries order colors₀ i₀ colors i = (i ≤ length order
 abbrev μ-loop : tie.MeasureT-loop
 μ-loop ends starts entries order colors₀ i₀ colors i = length order - i
 
+loop-holds : tie.Need-loop-holds Inv-loop μ-loop
+loop-holds c = search needs
+
 cast-colors : tie.Need-cast-colors Inv-loop μ-loop
 cast-colors c = omega (arith, c .before .before .before .shared-slice-known5 .given (c .before .before .before .before .before .loop .i))
 
@@ -37,7 +40,8 @@ color-in-order-spec =
     (tie.spec
     Inv-loop
     μ-loop
-    (λ c. search needs) (λ c. search needs) (λ c. search needs) (λ c κs. search needs)
+    loop-holds
+    (λ c. search needs) (λ c. search needs) (λ c κs. search needs)
     cast-colors
     mul-colors
     slice-write-colors
