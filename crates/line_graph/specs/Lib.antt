@@ -1,5 +1,6 @@
 -- The line list: definitions and laws.
 pub mod LineList
+pub mod Examples
 pub mod LineNeighbors
 pub mod PairLaws
 pub mod LineNeighborLaws

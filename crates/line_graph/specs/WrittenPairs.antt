@@ -15,6 +15,8 @@ use Rattle.graph.specs.Edges.{edgeCount}
 use Rattle.graph.specs.Stretch.{stretch}
 use Rattle.graph.specs.StretchLaws.{Table}
 use Rattle.line_graph.specs.LineList.{pairsWith, pairsOf, linePairs}
+-- No name of it is used: the rows are to be checked before the laws, so that a wrong definition is refused for what it gives.
+use Rattle.line_graph.specs.Examples
 use Rattle.line_graph.specs.Placed.{placed, placed-none, placed-front, placed-store, Writing, writing-none, writing-more}
 
 -- ---- what stands after some turns of each loop

@@ -10,7 +10,10 @@ list-length-requires : tie.Need-list-length-requires
 list-length-requires c κs = let p = c .before .before .before .before .before .before .before .before .before .pre in (p .nodes, few-edges _ _ _ _ p (c .before .before .before .before .incidence-front .ensures .1 .1 p (omega (arith, p .nodes)) (omega (arith, p .even, p .edges))))
 
 returns : tie.Need-returns
-returns c = let p = c .before .before .before .before .before .before .before .before .before .before .before .pre in list-short _ _ _ p _ _ (c .before .before .before .before .before .before .incidence-front .ensures .1 .1 p (omega (arith, p .nodes)) (omega (arith, p .even, p .edges))) _ (c .before .list-length .ensures) (c .if1 .taken)
+returns c =
+    let s = c .before .before .before .before .before .before .before .before .before .before .before in
+    let p = s .pre in
+    list-short _ _ (s .args .list .now) p _ _ (c .before .before .before .before .before .before .incidence-front .ensures .1 .1 p (omega (arith, p .nodes)) (omega (arith, p .even, p .edges))) (c .before .list-length .result) (c .before .list-length .ensures) (omega arith)
 
 returns-2 : tie.Need-returns-2
 returns-2 c =
