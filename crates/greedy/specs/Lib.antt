@@ -5,6 +5,7 @@ pub mod Degree
 pub mod Saturation
 pub mod IndependentSet
 pub mod Call
+pub mod Examples
 pub mod CallLaws
 pub mod Greedy
 pub mod GreedyLaws
