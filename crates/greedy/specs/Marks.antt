@@ -18,6 +18,11 @@ use Rattle.graph.specs.Colored.{noColor, colorOf, smallestFreeAt}
 use Rattle.graph.specs.ColoredLaws.{smaller-stands, smallest-none-has}
 use Rattle.graph.specs.Stretch.{stretch}
 use Rattle.graph.specs.StretchLaws.{Table}
+use Rattle.graph.specs.Walk.{stepAt}
+use Rattle.graph.specs.WalkLaws.{step-end, step-edge}
+use Rattle.graph.specs.declared.EdgeIndex.{EdgeIndex}
+use Rattle.graph.specs.declared.walk.WalkStep.{WalkStep}
+use Rattle.graph.specs.declared.walk.WalkStep.the-variants.{Edge, End}
 
 -- The colours at the far ends of these edges of v, `noColor` for none.
 unfoldable pub farColors : List ℕ → List ℕ → ℕ → List ℕ → List ℕ
@@ -57,15 +62,18 @@ module _ (ends colors : List ℕ) (v : ℕ) (ks marks : List ℕ) where
   far-marked-begin m = m
 
   module _ (i : ℕ) (m : Marked marks (farColors ends colors v (take i ks))) where
-    pub far-marked-next : (w c : ℕ) (marks′ : List ℕ) → i < length ks → w ≡ farEnd ends (getD ks i 0) v → c ≡ colorOf colors w → marks′ ≡ set marks c 1 → Marked marks′ (farColors ends colors v (take (i + 1) ks))
+    -- The walk's step gives edge k and the place after it.
+    pub far-marked-next : (r : WalkStep) (k : EdgeIndex) (next w c : ℕ) (marks′ : List ℕ) → r ≡ stepAt ks i → r ≡ Edge k next → w ≡ farEnd ends (k .0) v → c ≡ colorOf colors w → marks′ ≡ set marks c 1
+        → Marked marks′ (farColors ends colors v (take next ks))
     unfolding farColors
-    far-marked-next w c marks′ h p q r =
-        let e : c ≡ colorOf colors (farEnd ends (getD ks i 0) v) = q ∙ ap (colorOf colors) p in
-        let t = ap (farColors ends colors v) (ap (λ (j : ℕ). take j ks) (add-one i) ∙ take-suc ks i 0 h) ∙ map-append (λ (k : ℕ). colorOf colors (farEnd ends k v)) (take i ks) (getD ks i 0 ∷ []) in
-        rw (r, e, t) (marked-more marks (farColors ends colors v (take i ks)) (colorOf colors (farEnd ends (getD ks i 0) v)) m)
+    far-marked-next r k next w c marks′ a b p q m′ =
+        let s = step-edge ks i r k next a b in
+        let e : c ≡ colorOf colors (farEnd ends (getD ks i 0) v) = q ∙ ap (colorOf colors) (p ∙ ap (λ (j : ℕ). farEnd ends j v) (s .1)) in
+        let t = ap (farColors ends colors v) (ap (λ (j : ℕ). take j ks) (s .2 ∙ add-one i) ∙ take-suc ks i 0 (s .0)) ∙ map-append (λ (k : ℕ). colorOf colors (farEnd ends k v)) (take i ks) (getD ks i 0 ∷ []) in
+        rw (m′, e, t) (marked-more marks (farColors ends colors v (take i ks)) (colorOf colors (farEnd ends (getD ks i 0) v)) m)
 
-    pub far-marked-end : i ≤ length ks → length ks ≤ i → Marked marks (farColors ends colors v ks)
-    far-marked-end a b = subst (λ (l : List ℕ). Marked marks (farColors ends colors v l)) (take-all i ks b) m
+    pub far-marked-end : (r : WalkStep) → r ≡ stepAt ks i → r ≡ End → Marked marks (farColors ends colors v ks)
+    far-marked-end r a b = subst (λ (l : List ℕ). Marked marks (farColors ends colors v l)) (take-all i ks (step-end ks i r a b)) m
 
 -- ---- the first place without a mark
 
@@ -99,9 +107,9 @@ pub first-unmarked-smallest : (marks cs : List ℕ) (c : ℕ) → Marked marks c
 first-unmarked-smallest marks cs c m f =
     smallest-from (length marks) cs 0 c (omega arith) (omega (arith, f .inside)) (λ b h k. m .unmarked b (omega (arith, f .inside)) (f .before b k)) (λ h p. m .marked c (omega arith) p (f .here (omega arith)))
 
--- As the code finds it: the edges es are those of the table, and as many places are marked as there are marks.
-pub smallest-found : (ends colors : List ℕ) (v : ℕ) (ks es marks : List ℕ) (size c : ℕ) → es ≡ ks → Marked marks (farColors ends colors v es) → length marks ≡ size → FirstUnmarked marks c → c ≡ smallestFrom size (farColors ends colors v ks) 0
-smallest-found ends colors v ks es marks size c e m l f = rw (← e, ← l) (first-unmarked-smallest marks (farColors ends colors v es) c m f)
+-- As the code finds it: as many places are marked as there are marks.
+pub smallest-found : (ends colors : List ℕ) (v : ℕ) (ks marks : List ℕ) (size c : ℕ) → Marked marks (farColors ends colors v ks) → length marks ≡ size → FirstUnmarked marks c → c ≡ smallestFrom size (farColors ends colors v ks) 0
+smallest-found ends colors v ks marks size c m l f = rw (← l) (first-unmarked-smallest marks (farColors ends colors v ks) c m f)
 
 -- ---- at a node of a graph that passed
 

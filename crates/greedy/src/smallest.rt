@@ -12,6 +12,8 @@ ghost use Rattle.greedy.specs.Marks.{farColors, Marked, FirstUnmarked};
 use graph::Color;
 use graph::EdgeIndex;
 use graph::NodeIndex;
+use graph::WalkStep;
+use graph::edge_at;
 use graph::edges_at;
 use graph::end_at;
 use graph::far_end;
@@ -37,17 +39,31 @@ fn color_of(colors: &[u16], place: usize) -> Color
     }
 }
 
-// Marks the colours at the far ends of these edges of the node.
-fn mark_far_colors(ends: &[u16], edges: &[u16], colors: &[u16], node: NodeIndex, marks: &mut [u8])
+// Marks the colours at the far ends of the node's edges, which the walk gives one after another.
+fn mark_far_colors(
+    ends: &[u16],
+    starts: &[u16],
+    entries: &[u16],
+    colors: &[u16],
+    node: NodeIndex,
+    marks: &mut [u8],
+)
     requires { ⌜ Marked (now marks) [] ⌝ }
-    ensures { λ _. ⌜ Marked (now (marks .exit)) (farColors (now (ends .entry)) (now (colors .entry)) (node .0) (now (edges .entry))) ⌝ }
+    ensures { λ _. ⌜ Marked (now (marks .exit)) (farColors (now (ends .entry)) (now (colors .entry)) (node .0) (stretch (now (starts .entry)) (now (entries .entry)) (node .0))) ⌝ }
     ensures { λ _. ⌜ length (now (marks .exit)) ≡ length (now (marks .entry)) ⌝ }
 {
-    let mut i = 0;
-    while i < edges.len() {
-        let far = far_end(ends, EdgeIndex(edges[i]), node);
-        mark(marks, color_of(colors, far.0 as usize));
-        i += 1;
+    let mut at = 0;
+    loop {
+        match edge_at(starts, entries, node, at) {
+            WalkStep::End => {
+                return;
+            }
+            WalkStep::Edge(edge, next) => {
+                let far = far_end(ends, edge, node);
+                mark(marks, color_of(colors, far.0 as usize));
+                at = next;
+            }
+        }
     }
 }
 
@@ -76,8 +92,7 @@ pub fn smallest_color(
     ensures { λ r. ⌜ r .0 ≡ smallestFrom 512 (farColors (now (ends .entry)) (now (colors .entry)) (node .0) (stretch (now (starts .entry)) (now (entries .entry)) (node .0))) 0 ⌝ }
 {
     let mut marks = [0u8; 512];
-    let edges = edges_at(starts, entries, node);
-    mark_far_colors(ends, edges, colors, node, &mut marks);
+    mark_far_colors(ends, starts, entries, colors, node, &mut marks);
     Color(first_unmarked(&marks) as u16)
 }
 

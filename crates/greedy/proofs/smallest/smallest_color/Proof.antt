@@ -8,13 +8,13 @@ mark-far-colors-requires : tie.Need-mark-far-colors-requires
 mark-far-colors-requires c κs = marked-none 512
 
 returns : tie.Need-returns
-returns c = smallest-found _ _ _ _ _ _ 512 _ (c .before .before .before .before .before .edges-at .ensures .0) (c .before .before .before .mark-far-colors .ensures .0) (c .before .before .before .mark-far-colors .ensures .1) (c .first-unmarked .ensures)
+returns c = let m = c .before .before .before .mark-far-colors in smallest-found _ _ _ _ (m .last .1 .1 .1 .1 .1 .0) 512 (c .first-unmarked .result) (m .ensures .0) (m .ensures .1) (c .first-unmarked .ensures)
 
 pub smallest-color-spec : {M : Type 1} → statement M
 smallest-color-spec =
     tie.close
     (tie.spec
-    (λ c κs. search needs) (λ c. search needs)
+    (λ c. search needs)
     mark-far-colors-requires
     (λ c. search needs) (λ c κs. search needs) (λ c. search needs)
     returns)
