@@ -9,22 +9,22 @@ use Rattle.greedy.proofs.smallest.first_unmarked.Statement.{statement}
 use Rattle.greedy.proofs.smallest.first_unmarked.Tie as tie
 
 abbrev Inv-loop : tie.InvT-loop
-Inv-loop marks c₀ c = (c ≤ length marks) × ((b : ℕ) → b < c → getD marks b 0 ≢ 0)
+Inv-loop marks c₀ c = ((b : ℕ) → b < c → getD marks b 0 ≢ 0) × (c ≤ length marks)
 
 abbrev μ-loop : tie.MeasureT-loop
 μ-loop marks c₀ c = length marks - c
 
 loop-holds : tie.Need-loop-holds Inv-loop μ-loop
-loop-holds c = (omega arith, first-unmarked-begin (c .args .marks .now))
+loop-holds c = (first-unmarked-begin (c .args .marks .now), omega arith)
 
 returns : tie.Need-returns Inv-loop μ-loop
-returns c = record { inside = c .before .before .before .loop .inv .0; before = c .before .before .before .loop .inv .1; here = λ h. c .if1 .taken }
+returns c = record { inside = c .before .before .before .loop .inv .1; before = c .before .before .before .loop .inv .0; here = λ h. c .if1 .taken }
 
 loop-again : tie.Need-loop-again Inv-loop μ-loop
-loop-again c = (omega arith, first-unmarked-next (c .before .before .before .before .args .marks .now) _ (c .before .before .before .loop .inv .1) (c .if1 .left))
+loop-again c = (first-unmarked-next (c .before .before .before .before .args .marks .now) _ (c .before .before .before .loop .inv .0) (c .if1 .left), omega arith)
 
 returns-2 : tie.Need-returns-2 Inv-loop μ-loop
-returns-2 c = record { inside = c .before .loop .inv .0; before = c .before .loop .inv .1; here = λ h. let z : ⊥ = omega (arith, c .loop-test .left) in absurd z }
+returns-2 c = record { inside = c .before .loop .inv .1; before = c .before .loop .inv .0; here = λ h. let z : ⊥ = omega (arith, c .loop-test .left) in absurd z }
 
 pub first-unmarked-spec : {M : Type 1} → statement M
 first-unmarked-spec =
