@@ -51,8 +51,8 @@ module _ (rule : Rule) (greedy : GreedyRule rule) (nb : ℕ → List ℕ) (items
   accepts-all : Passed n ends → length presets ≡ items → length lent ≡ items → Accepted r
   accepts-all p h k = (_, a ∙ sym (items-accepted nb items n ends presets lent rule (passed-item-checks n ends items (length presets) (length lent) p h k) _ (rule nb items presets) refl refl .0))
 
-  holidays : PrecoloringKept items presets r colors
-  holidays = record { kept = λ days e v h d. accepts days e .found .kept v h d }
+  items-kept : PrecoloringKept items presets r colors
+  items-kept = record { kept = λ days e v h d. accepts days e .found .kept v h d }
 
 -- ---- nodes
 
@@ -60,7 +60,7 @@ module _ (rule : Rule) (greedy : GreedyRule rule) (n : ℕ) (ends presets lent :
     (a : r ≡ greedyNodes rule n ends presets lent .report) (b : colors ≡ greedyNodes rule n ends presets lent .colors) where
   pub precoloring-kept : PrecoloringKept n presets r colors
   unfolding greedyNodes
-  precoloring-kept = holidays rule greedy (neighbors ends (edgeCount ends)) n n ends presets lent (node-neighborhood n ends) r colors a b
+  precoloring-kept = items-kept rule greedy (neighbors ends (edgeCount ends)) n n ends presets lent (node-neighborhood n ends) r colors a b
 
   node-answer : (days : ℕ) → r ≡ accepted days → Answer n ends (neighbors ends (edgeCount ends)) n presets colors
   unfolding greedyNodes
@@ -86,7 +86,7 @@ module _ (rule : Rule) (greedy : GreedyRule rule) (n : ℕ) (ends presets lent :
     (a : r ≡ greedyEdges rule n ends presets lent .report) (b : colors ≡ greedyEdges rule n ends presets lent .colors) where
   pub edge-precoloring-kept : PrecoloringKept (edgeCount ends) presets r colors
   unfolding greedyEdges
-  edge-precoloring-kept = holidays rule greedy (edgeNeighbors n ends) (edgeCount ends) n ends presets lent (edge-neighborhood n ends) r colors a b
+  edge-precoloring-kept = items-kept rule greedy (edgeNeighbors n ends) (edgeCount ends) n ends presets lent (edge-neighborhood n ends) r colors a b
 
   edge-answer : (days : ℕ) → r ≡ accepted days → Answer n ends (edgeNeighbors n ends) (edgeCount ends) presets colors
   unfolding greedyEdges
@@ -107,14 +107,14 @@ module _ (rule : Rule) (greedy : GreedyRule rule) (n : ℕ) (ends presets lent :
 -- ---- the form without presets
 
 -- Where nothing is preset, which presets those are does not matter.
-pub grid-without-presets : (n : ℕ) (ends : List ℕ) (r : Report ℕ) (colors : List ℕ) (k : ℕ) → ProperNodeColoring n ends (replicate k noColor) r colors → ProperNodeColoring n ends [] r colors
-grid-without-presets n ends r colors k grid = record {
-  colored = grid .colored;
-  differ = λ days e j h d free. grid .differ days e j h d (inl (color-replicate k (firstEnd ends j)));
+pub proper-nodes-without-presets : (n : ℕ) (ends : List ℕ) (r : Report ℕ) (colors : List ℕ) (k : ℕ) → ProperNodeColoring n ends (replicate k noColor) r colors → ProperNodeColoring n ends [] r colors
+proper-nodes-without-presets n ends r colors k proper = record {
+  colored = proper .colored;
+  differ = λ days e j h d free. proper .differ days e j h d (inl (color-replicate k (firstEnd ends j)));
 }
 
-pub apart-without-presets : (ends : List ℕ) (r : Report ℕ) (colors : List ℕ) (k : ℕ) → ProperEdgeColoring ends (replicate k noColor) r colors → ProperEdgeColoring ends [] r colors
-apart-without-presets ends r colors k apart = record {
+pub proper-edges-without-presets : (ends : List ℕ) (r : Report ℕ) (colors : List ℕ) (k : ℕ) → ProperEdgeColoring ends (replicate k noColor) r colors → ProperEdgeColoring ends [] r colors
+proper-edges-without-presets ends r colors k apart = record {
   colored = apart .colored;
   differ = λ days e i j v h g d p q free. apart .differ days e i j v h g d p q (inl (color-replicate k i));
 }

@@ -12,7 +12,7 @@ use Rattle.greedy.specs.Degree.{degreeOrder, degreeColors}
 use Rattle.greedy.specs.TurnLaws.{in-order-greedy}
 use Rattle.greedy.specs.declared.ColoringStrategy.{ColoringStrategy}
 use Rattle.greedy.specs.Call.{Rule, ruleOf, greedyNodes, greedyNodesPlain, greedyEdges, greedyEdgesPlain, PrecoloringKept, ProperNodeColoring, ProperEdgeColoring}
-use Rattle.greedy.specs.CallerLaws.{GreedyRule, nodes-accept, edges-accept, precoloring-kept, proper-nodes, edge-precoloring-kept, proper-edges, nodes-plain-same, edges-plain-same, grid-without-presets, apart-without-presets}
+use Rattle.greedy.specs.CallerLaws.{GreedyRule, nodes-accept, edges-accept, precoloring-kept, proper-nodes, edge-precoloring-kept, proper-edges, nodes-plain-same, edges-plain-same, proper-nodes-without-presets, proper-edges-without-presets}
 use Rattle.greedy.specs.IndependentSet.{independentSetColors}
 use Rattle.independent_set.specs.IndependentSetLaws.{independent-set-greedy}
 use Rattle.degree.specs.OrderLaws.{order-member, member-order, order-nodup}
@@ -33,9 +33,9 @@ module _ (rule : Rule) (greedy : GreedyRule rule) (n : ℕ) (ends presets lent :
 
 -- ---- the calls without presets: as many empty presets as there are colours, or as there may be items at most
 
--- The lent part of the list of empty presets.
-pub presets-part : (k most : ℕ) → k ≤ most → k ≡ length (take k (replicate most noColor))
-presets-part k most h = sym (length-take-le k (replicate most noColor) (rw (length-replicate most noColor) h))
+-- The lent part of a list of equal presets has the length asked for.
+pub presets-part : (k most preset : ℕ) → k ≤ most → k ≡ length (take k (replicate most preset))
+presets-part k most preset h = sym (length-take-le k (replicate most preset) (rw (length-replicate most preset) h))
 
 module _ (n : ℕ) (ends : List ℕ) (k : ℕ) (lent : List ℕ) (r : Report ℕ) (colors : List ℕ) where
   module _ (presets : List ℕ) (e : presets ≡ replicate k noColor) where
@@ -49,7 +49,7 @@ module _ (n : ℕ) (ends : List ℕ) (k : ℕ) (lent : List ℕ) (r : Report ℕ
             b ∙ p .1,
             (
               λ h l. nodes-accept degreeColors degree-greedy n ends presets lent r colors a b h (sized h l) l,
-              grid-without-presets n ends r colors k (subst (λ (x : List ℕ). ProperNodeColoring n ends x r colors) e (proper-nodes degreeColors degree-greedy n ends presets lent r colors a b)),
+              proper-nodes-without-presets n ends r colors k (subst (λ (x : List ℕ). ProperNodeColoring n ends x r colors) e (proper-nodes degreeColors degree-greedy n ends presets lent r colors a b)),
             ),
           ),
         )
@@ -64,7 +64,7 @@ module _ (n : ℕ) (ends : List ℕ) (k : ℕ) (lent : List ℕ) (r : Report ℕ
             b ∙ p .1,
             (
               λ h l. edges-accept degreeColors degree-greedy n ends presets lent r colors a b h (sized h l) l,
-              apart-without-presets ends r colors k (subst (λ (x : List ℕ). ProperEdgeColoring ends x r colors) e (proper-edges degreeColors degree-greedy n ends presets lent r colors a b)),
+              proper-edges-without-presets ends r colors k (subst (λ (x : List ℕ). ProperEdgeColoring ends x r colors) e (proper-edges degreeColors degree-greedy n ends presets lent r colors a b)),
             ),
           ),
         )

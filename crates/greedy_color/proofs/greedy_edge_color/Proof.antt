@@ -9,7 +9,7 @@ use Rattle.greedy_color.proofs.greedy_edge_color.Statement.{statement}
 use Rattle.greedy_color.proofs.greedy_edge_color.Tie as tie
 
 slice-aggregate-color-edges : tie.Need-slice-aggregate-color-edges
-slice-aggregate-color-edges c = presets-part _ 4096 (omega arith)
+slice-aggregate-color-edges c = presets-part _ 4096 _ (omega arith)
 
 returns : tie.Need-returns
 returns c = let k = length (c .before .before .before .before .before .before .before .before .args .colors .now) in edges-without-presets _ _ k _ _ _ _ (take-replicate k 4096 65535 (omega arith)) (λ h e. e) (c .before .before .color-edges .ensures .0) (c .before .before .color-edges .ensures .1)

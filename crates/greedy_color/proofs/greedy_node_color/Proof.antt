@@ -9,7 +9,7 @@ use Rattle.greedy_color.proofs.greedy_node_color.Statement.{statement}
 use Rattle.greedy_color.proofs.greedy_node_color.Tie as tie
 
 slice-aggregate-color-nodes : tie.Need-slice-aggregate-color-nodes
-slice-aggregate-color-nodes c = presets-part _ 512 (omega arith)
+slice-aggregate-color-nodes c = presets-part _ 512 _ (omega arith)
 
 returns : tie.Need-returns
 returns c = let k = length (c .before .before .before .before .before .before .before .before .args .colors .now) in nodes-without-presets _ _ k _ _ _ _ (take-replicate k 512 65535 (omega arith)) (λ h e. e) (c .before .before .color-nodes .ensures .0) (c .before .before .color-nodes .ensures .1)
