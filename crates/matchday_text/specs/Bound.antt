@@ -1,4 +1,4 @@
--- How long a text can be: numbers below 100,000 have five digits, and there are at most 4,096 matches.
+-- How long a text can be: numbers below 100,000 have five digits, and there are at most 4,096 edges.
 use Prim.Native.Nat.{ℕ, zero, suc, _+_, _*_, _≤_, _<_}
 use mathlib.Core.Path.{_≡_, refl, sym}
 use mathlib.Core.Bool.{Bool, true, false, _&&_}
@@ -23,7 +23,7 @@ use Rattle.vizing.specs.Demand3.{Admitted, max-degree-bound}
 use Rattle.vizing.specs.DefinitionLaws.{some-or-none}
 use Rattle.vizing.specs.Checks.{passed-admitted}
 use Rattle.vizing.specs.Theorem.{demand3, misra-gries-colors}
-use Rattle.matchday_text.specs.Text.{followed, decimal, line, matchLine, matchLines, daysText, refusedText, reportText, outcomeText, coloredText, daysWord, refusedWord, space, lineFeed}
+use Rattle.matchday_text.specs.Text.{followed, decimal, line, edgeLine, edgeLines, daysText, refusedText, reportText, outcomeText, coloredText, daysWord, refusedWord, space, lineFeed}
 use Rattle.matchday_text.specs.Decimal.{decimal-length}
 
 -- ---- lines
@@ -36,14 +36,14 @@ unfolding followed
 followed-length x byte h = append-bound (decimal x) (byte ∷ []) 5 1 (decimal-length x h) (omega arith)
 
 module _ (ends colors : List ℕ) where
-  -- The numbers of the first m matches are below 100,000.
+  -- The numbers of the first m edges are below 100,000.
   pub record Small (m : ℕ) : Type 0 where
     pub number : m ≤ 100000
     pub inside : (k : ℕ) → k < m → (firstEnd ends k < 100000) × (secondEnd ends k < 100000)
     pub color : (k : ℕ) → k < m → colorOf colors k < 100000
 
-  line-length : (m k : ℕ) → Small m → k < m → length (matchLine ends colors k) ≤ 24
-  unfolding matchLine line
+  line-length : (m k : ℕ) → Small m → k < m → length (edgeLine ends colors k) ≤ 24
+  unfolding edgeLine line
   line-length m k s h =
       let a = followed k space in
       let b = followed (firstEnd ends k) space in
@@ -55,11 +55,11 @@ module _ (ends colors : List ℕ) where
       (followed-length (secondEnd ends k) space (s .inside k h .1)))
       (followed-length (colorOf colors k) lineFeed (s .color k h))
 
-  lines-length : (m k : ℕ) → Small m → k ≤ m → length (matchLines ends colors k) ≤ 24 * k
-  unfolding matchLines
+  lines-length : (m k : ℕ) → Small m → k ≤ m → length (edgeLines ends colors k) ≤ 24 * k
+  unfolding edgeLines
   lines-length m zero s h = omega arith
   lines-length m (suc k) s h =
-      rw (length-append (matchLines ends colors k) (matchLine ends colors k)) (omega (arith, lines-length m k s (omega arith), line-length m k s (omega arith)))
+      rw (length-append (edgeLines ends colors k) (edgeLine ends colors k)) (omega (arith, lines-length m k s (omega arith), line-length m k s (omega arith)))
 
   -- ---- the two texts
 
@@ -67,7 +67,7 @@ module _ (ends colors : List ℕ) where
   unfolding daysText
   days-length days h k s =
       let d = followed days lineFeed in
-      let l = matchLines ends colors (edgeCount ends) in
+      let l = edgeLines ends colors (edgeCount ends) in
       append-bound (daysWord ++ d) l 11 98319
       (append-bound daysWord d 5 6 (omega arith) (followed-length days lineFeed h))
       (omega (arith, lines-length (edgeCount ends) (edgeCount ends) s (omega arith)))

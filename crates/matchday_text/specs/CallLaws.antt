@@ -60,7 +60,7 @@ module _ (n : ℕ) (ends lent : List ℕ) where
     accepted-whole = accepted-answer ends (misraGries n ends lent) c days colors e p q
 
     pub accepted-room : VizingColoring n ends lent (reportOfColoring c) colors → (edgeCount ends ≤ 65535) × Room 0 (daysText days ends colors)
-    accepted-room dates = (omega (arith, dates .admits days (ap reportOfColoring p) .0 .edges), room (daysText days ends colors) accepted-whole)
+    accepted-room coloring = (omega (arith, coloring .admits days (ap reportOfColoring p) .0 .edges), room (daysText days ends colors) accepted-whole)
 
     pub accepted-text : (before after : List ℕ) (end : ℕ) → Put before 0 (daysText days ends colors) after end → (end ≡ length whole) × (after ≡ copiedOver whole before)
     accepted-text before after end put = done (daysText days ends colors) before after end accepted-whole put

@@ -13,7 +13,7 @@ use Rattle.graph_file.specs.Layout.{graphBytes, fieldBytes, bytesOf, bytes16}
 use Rattle.graph_file.specs.LayoutLaws.{read-bytes}
 use Rattle.vizing.specs.Checks.{checks-pass}
 use Rattle.vizing.specs.Demand3Examples.{listP13, p13-admitted, p13-colors, runs}
-use Rattle.matchday_text.specs.Text.{digits, decimal, followed, line, matchLine, matchLines, daysText, refusedText, coloredText, fileText}
+use Rattle.matchday_text.specs.Text.{digits, decimal, followed, line, edgeLine, edgeLines, daysText, refusedText, coloredText, fileText}
 use Rattle.matchday_text.specs.Bound.{accepts}
 use Rattle.matchday_text.specs.FileText.{file-text, no-file-text}
 
@@ -26,7 +26,7 @@ pub numbers :
 unfolding decimal digits
 numbers = (refl, refl, refl, refl, refl)
 
--- "01 02 00 04 00 02 10 00 ..": the file of P13's list.
+-- "01 02 00 04 00 02 10 00" and so on: the file of P13's list.
 abbrev pub exampleFile : List ℕ
 exampleFile = 1 ∷ 2 ∷ 0 ∷ 4 ∷ 0 ∷ 2 ∷ 16 ∷ 0 ∷ 0 ∷ 0 ∷ 1 ∷ 0 ∷ 1 ∷ 0 ∷ 2 ∷ 0 ∷ 0 ∷ 0 ∷ 2 ∷ 0 ∷ 2 ∷ 0 ∷ 3 ∷ 0 ∷ []
 
@@ -44,7 +44,7 @@ unfolding graphBytes fieldBytes bytesOf bytes16
 example-file = refl
 
 example-lines : daysText 3 listP13 (2 ∷ 1 ∷ 0 ∷ 2 ∷ []) ≡ exampleText
-unfolding daysText matchLines matchLine line followed decimal digits firstEnd secondEnd colorOf
+unfolding daysText edgeLines edgeLine line followed decimal digits firstEnd secondEnd colorOf
 example-lines = refl
 
 example-colored : coloredText 4 listP13 ≡ exampleText
@@ -58,7 +58,7 @@ example-colored =
 pub example : fileText exampleFile ≡ exampleText
 example = file-text exampleFile (record { nodes = 4; ends = listP13; tags = 3 }) (ap fileOf example-file ∙ read-bytes 4 listP13 refl (omega arith)) ∙ example-colored
 
--- No bytes at all: "refused 10".
+-- "An empty file gives 10."
 pub no-bytes : fileText [] ≡ 114 ∷ 101 ∷ 102 ∷ 117 ∷ 115 ∷ 101 ∷ 100 ∷ 32 ∷ 49 ∷ 48 ∷ 10 ∷ []
 unfolding bind fileOf fields fieldsUpTo graphOf refusedText followed decimal digits
 no-bytes = no-file-text [] refl

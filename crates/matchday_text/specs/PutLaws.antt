@@ -11,7 +11,7 @@ use Rattle.graph.specs.Report.{number}
 use Rattle.graph.specs.Edges.{edgeCount, firstEnd, secondEnd}
 use Rattle.graph.specs.Colored.{colorOf}
 use Rattle.graph.specs.declared.Coloring.the-variants as O
-use Rattle.matchday_text.specs.Text.{decimal, followed, space, lineFeed, line, matchLine, matchLines, daysWord, daysText, refusedWord, refusedText}
+use Rattle.matchday_text.specs.Text.{decimal, followed, space, lineFeed, line, edgeLine, edgeLines, daysWord, daysText, refusedWord, refusedText}
 use Rattle.matchday_text.specs.Put.{Put, Room, put-none, put-then, room-first, room-next}
 use Rattle.matchday_text.specs.Decimal.{decimal-digit, decimal-more}
 
@@ -140,7 +140,7 @@ module _ (before : List ℕ) (days : ℕ) (ends colors : List ℕ) (r : Room 0 (
   N = followed days lineFeed
 
   abbrev L : List ℕ
-  L = matchLines ends colors (edgeCount ends)
+  L = edgeLines ends colors (edgeCount ends)
 
   pub days-word : Room 0 daysWord
   unfolding daysText
@@ -160,42 +160,42 @@ module _ (before : List ℕ) (days : ℕ) (ends colors : List ℕ) (r : Room 0 (
       unfolding daysText
       days-put text₃ at₃ p₃ = three before 0 daysWord N L r text₁ at₁ p₁ text₂ at₂ p₂ text₃ at₃ p₃
 
--- ---- the numbers of a match
+-- ---- the numbers of an edge
 
 module _ (ends colors : List ℕ) (k a b c : ℕ) where
-  match-line : a ≡ getD ends (2 * k) 0 → b ≡ getD ends (2 * k + 1) 0 → c ≡ colorOf colors k → matchLine ends colors k ≡ line k a b c
-  unfolding matchLine firstEnd secondEnd
-  match-line p q r = rw (p, q, r)
+  edge-line : a ≡ getD ends (2 * k) 0 → b ≡ getD ends (2 * k + 1) 0 → c ≡ colorOf colors k → edgeLine ends colors k ≡ line k a b c
+  unfolding edgeLine firstEnd secondEnd
+  edge-line p q r = rw (p, q, r)
 
-pub match-room : (ends colors : List ℕ) (k a b c at : ℕ) → a ≡ getD ends (2 * k) 0 → b ≡ getD ends (2 * k + 1) 0 → c ≡ colorOf colors k → Room at (matchLine ends colors k) → Room at (line k a b c)
-match-room ends colors k a b c at p q r room = rw (match-line ends colors k a b c p q r) at room
+pub edge-room : (ends colors : List ℕ) (k a b c at : ℕ) → a ≡ getD ends (2 * k) 0 → b ≡ getD ends (2 * k + 1) 0 → c ≡ colorOf colors k → Room at (edgeLine ends colors k) → Room at (line k a b c)
+edge-room ends colors k a b c at p q r room = rw (edge-line ends colors k a b c p q r) at room
 
-pub match-put : (ends colors : List ℕ) (k a b c : ℕ) (before : List ℕ) (at : ℕ) (after : List ℕ) (end : ℕ) → a ≡ getD ends (2 * k) 0 → b ≡ getD ends (2 * k + 1) 0 → c ≡ colorOf colors k → Put before at (line k a b c) after end → Put before at (matchLine ends colors k) after end
-match-put ends colors k a b c before at after end p q r put = rw (match-line ends colors k a b c p q r) put
+pub edge-put : (ends colors : List ℕ) (k a b c : ℕ) (before : List ℕ) (at : ℕ) (after : List ℕ) (end : ℕ) → a ≡ getD ends (2 * k) 0 → b ≡ getD ends (2 * k + 1) 0 → c ≡ colorOf colors k → Put before at (line k a b c) after end → Put before at (edgeLine ends colors k) after end
+edge-put ends colors k a b c before at after end p q r put = rw (edge-line ends colors k a b c p q r) put
 
 -- ---- lines put one by one
 
 module _ (ends colors : List ℕ) where
-  lines-rise : (k m : ℕ) → k < m → length (matchLines ends colors k) + length (matchLine ends colors k) ≤ length (matchLines ends colors m)
-  unfolding matchLines
+  lines-rise : (k m : ℕ) → k < m → length (edgeLines ends colors k) + length (edgeLine ends colors k) ≤ length (edgeLines ends colors m)
+  unfolding edgeLines
   lines-rise k zero h = let z : ⊥ = omega arith in absurd z
   lines-rise k (suc m) h =
-      let e = length-append (matchLines ends colors m) (matchLine ends colors m) in
+      let e = length-append (edgeLines ends colors m) (edgeLine ends colors m) in
       elim (decLt k m) [
         | yes b ↦ omega (arith, lines-rise k m b)
         | no b ↦ let q : k ≡ m = omega arith in rw q (omega arith)
       ]
 
-  pub line-none : (text : List ℕ) (at : ℕ) → Put text at (matchLines ends colors 0) text at
-  unfolding matchLines
+  pub line-none : (text : List ℕ) (at : ℕ) → Put text at (edgeLines ends colors 0) text at
+  unfolding edgeLines
   line-none text at = put-none text at
 
-  pub line-all : (before : List ℕ) (at k m : ℕ) (after : List ℕ) (end : ℕ) → m ≤ k → k ≤ m → Put before at (matchLines ends colors k) after end → Put before at (matchLines ends colors m) after end
+  pub line-all : (before : List ℕ) (at k m : ℕ) (after : List ℕ) (end : ℕ) → m ≤ k → k ≤ m → Put before at (edgeLines ends colors k) after end → Put before at (edgeLines ends colors m) after end
   line-all before at k m after end h h′ p = let e : k ≡ m = omega arith in rw e at p
 
-  pub line-room : (before : List ℕ) (at k m : ℕ) (middle : List ℕ) (next : ℕ) → k < m → Room at (matchLines ends colors m) → Put before at (matchLines ends colors k) middle next → Room next (matchLine ends colors k)
+  pub line-room : (before : List ℕ) (at k m : ℕ) (middle : List ℕ) (next : ℕ) → k < m → Room at (edgeLines ends colors m) → Put before at (edgeLines ends colors k) middle next → Room next (edgeLine ends colors k)
   line-room before at k m middle next h r p = record { below = omega (arith, r .below, p .end, lines-rise k m h) }
 
-  pub line-more : (before : List ℕ) (at k : ℕ) (middle : List ℕ) (next : ℕ) (after : List ℕ) (end : ℕ) → Put before at (matchLines ends colors k) middle next → Put middle next (matchLine ends colors k) after end → Put before at (matchLines ends colors (k + 1)) after end
-  unfolding matchLines
-  line-more before at k middle next after end p q = rw (add-one k) (put-then before at (matchLines ends colors k) middle next (matchLine ends colors k) after end p q)
+  pub line-more : (before : List ℕ) (at k : ℕ) (middle : List ℕ) (next : ℕ) (after : List ℕ) (end : ℕ) → Put before at (edgeLines ends colors k) middle next → Put middle next (edgeLine ends colors k) after end → Put before at (edgeLines ends colors (k + 1)) after end
+  unfolding edgeLines
+  line-more before at k middle next after end p q = rw (add-one k) (put-then before at (edgeLines ends colors k) middle next (edgeLine ends colors k) after end p q)

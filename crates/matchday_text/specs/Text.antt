@@ -25,25 +25,25 @@ decimal x = digits (suc x) x
 unfoldable pub followed : ℕ → ℕ → List ℕ
 followed x byte = decimal x ++ (byte ∷ [])
 
--- "single spaces", "every line ends in a line feed"
+-- What stands between the numbers of a line, and at its end.
 abbrev pub space : ℕ
 space = 32
 
 abbrev pub lineFeed : ℕ
 lineFeed = 10
 
--- "(edge, first end, second end, colour, decimal, single spaces)"
+-- "per line: edge, first end, second end, colour, all decimal"
 unfoldable pub line : ℕ → ℕ → ℕ → ℕ → List ℕ
 line edge first second color = followed edge space ++ followed first space ++ followed second space ++ followed color lineFeed
 
--- "a line for each match"
-unfoldable pub matchLine : List ℕ → List ℕ → ℕ → List ℕ
-matchLine ends colors k = line k (firstEnd ends k) (secondEnd ends k) (colorOf colors k)
+-- The line of edge k.
+unfoldable pub edgeLine : List ℕ → List ℕ → ℕ → List ℕ
+edgeLine ends colors k = line k (firstEnd ends k) (secondEnd ends k) (colorOf colors k)
 
--- The lines of the first k matches, in the order of the edges.
-unfoldable pub matchLines : List ℕ → List ℕ → ℕ → List ℕ
-matchLines ends colors zero = []
-matchLines ends colors (suc k) = matchLines ends colors k ++ matchLine ends colors k
+-- The lines of the first k edges, in their order.
+unfoldable pub edgeLines : List ℕ → List ℕ → ℕ → List ℕ
+edgeLines ends colors zero = []
+edgeLines ends colors (suc k) = edgeLines ends colors k ++ edgeLine ends colors k
 
 -- "days " and "refused "
 abbrev pub daysWord : List ℕ
@@ -52,11 +52,11 @@ daysWord = 100 ∷ 97 ∷ 121 ∷ 115 ∷ 32 ∷ []
 abbrev pub refusedWord : List ℕ
 refusedWord = 114 ∷ 101 ∷ 102 ∷ 117 ∷ 115 ∷ 101 ∷ 100 ∷ 32 ∷ []
 
--- "prints `days N` and a line for each match"
+-- The days, then a line for each edge.
 unfoldable pub daysText : ℕ → List ℕ → List ℕ → List ℕ
-daysText days ends colors = daysWord ++ followed days lineFeed ++ matchLines ends colors (edgeCount ends)
+daysText days ends colors = daysWord ++ followed days lineFeed ++ edgeLines ends colors (edgeCount ends)
 
--- "or `refused N`"
+-- "The program prints `refused N`."
 unfoldable pub refusedText : ℕ → List ℕ
 refusedText number = refusedWord ++ followed number lineFeed
 
@@ -72,6 +72,6 @@ outcomeText ends outcome = reportText ends (outcome .report) (outcome .colors)
 unfoldable pub coloredText : ℕ → List ℕ → List ℕ
 coloredText n ends = outcomeText ends (misraGries n ends (replicate (edgeCount ends) noColor))
 
--- "reads one file from standard input": bytes that do not have its layout, among them "more than 16,392 bytes", are "`refused 10`".
+-- "reads one file from standard input": bytes without the layout, as where there are more than 16,392, are refused by 10.
 unfoldable pub fileText : List ℕ → List ℕ
 fileText bytes = elim (fileOf bytes) [ none ↦ refusedText 10 | some file ↦ coloredText (file .nodes) (file .ends) ]

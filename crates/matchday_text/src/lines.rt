@@ -8,7 +8,7 @@ ghost use mathlib.Core.Path.{_≡_};
 ghost use Prim.Native.Nat.{_≤_};
 ghost use Rattle.graph.specs.Edges.{edgeCount};
 ghost use Rattle.graph.specs.Colored.{colorOf};
-ghost use Rattle.matchday_text.specs.Text.{line, matchLine, matchLines, daysText, refusedText};
+ghost use Rattle.matchday_text.specs.Text.{line, edgeLine, edgeLines, daysText, refusedText};
 ghost use Rattle.matchday_text.specs.Put.{Put, Room};
 
 // The colour of an edge, 65,535 beyond the list.
@@ -41,10 +41,10 @@ fn put_line(
     put_number(text, c, color, b'\n')
 }
 
-// The line of one match.
-fn put_match(text: &mut [u8], at: usize, ends: &[u16], colors: &[u16], edge: EdgeIndex) -> usize
-    requires { ⌜ Room at (matchLine (now ends) (now colors) (edge .0)) ⌝ }
-    ensures { λ r. ⌜ Put (now (text .entry)) at (matchLine (now (ends .entry)) (now (colors .entry)) (edge .0)) (now (text .exit)) r ⌝ }
+// The line of one edge.
+fn put_edge(text: &mut [u8], at: usize, ends: &[u16], colors: &[u16], edge: EdgeIndex) -> usize
+    requires { ⌜ Room at (edgeLine (now ends) (now colors) (edge .0)) ⌝ }
+    ensures { λ r. ⌜ Put (now (text .entry)) at (edgeLine (now (ends .entry)) (now (colors .entry)) (edge .0)) (now (text .exit)) r ⌝ }
 {
     let k = edge.0 as usize;
     let first = end_at(ends, 2 * k);
@@ -53,17 +53,17 @@ fn put_match(text: &mut [u8], at: usize, ends: &[u16], colors: &[u16], edge: Edg
     put_line(text, at, edge, first, second, color)
 }
 
-// A line for each match.
-fn put_matches(text: &mut [u8], at: usize, ends: &[u16], colors: &[u16]) -> usize
+// A line for each edge.
+fn put_edges(text: &mut [u8], at: usize, ends: &[u16], colors: &[u16]) -> usize
     requires { ⌜ edgeCount (now ends) ≤ 65535 ⌝ }
-    requires { ⌜ Room at (matchLines (now ends) (now colors) (edgeCount (now ends))) ⌝ }
-    ensures { λ r. ⌜ Put (now (text .entry)) at (matchLines (now (ends .entry)) (now (colors .entry)) (edgeCount (now (ends .entry)))) (now (text .exit)) r ⌝ }
+    requires { ⌜ Room at (edgeLines (now ends) (now colors) (edgeCount (now ends))) ⌝ }
+    ensures { λ r. ⌜ Put (now (text .entry)) at (edgeLines (now (ends .entry)) (now (colors .entry)) (edgeCount (now (ends .entry)))) (now (text .exit)) r ⌝ }
 {
     let m = ends.len() / 2;
     let mut next = at;
     let mut k = 0;
     while k < m {
-        next = put_match(text, next, ends, colors, EdgeIndex(k as u16));
+        next = put_edge(text, next, ends, colors, EdgeIndex(k as u16));
         k += 1;
     }
     next
@@ -77,7 +77,7 @@ pub(crate) fn put_days(text: &mut [u8], days: usize, ends: &[u16], colors: &[u16
 {
     let a = put_bytes(text, 0, b"days ");
     let b = put_number(text, a, days, b'\n');
-    put_matches(text, b, ends, colors)
+    put_edges(text, b, ends, colors)
 }
 
 // The text of a refusal.

@@ -10,11 +10,11 @@ put-bytes-requires c κs = days-word (c .before .before .before .before .before 
 put-number-requires : tie.Need-put-number-requires
 put-number-requires c κs = days-number _ _ _ _ (c .before .before .before .before .before .before .before .before .before .pre .1) _ _ (c .before .before .before .put-bytes .ensures)
 
-put-matches-requires : tie.Need-put-matches-requires
-put-matches-requires c κs = (c .before .before .before .before .before .before .before .before .before .before .before .before .before .pre .0, days-lines _ _ _ _ (c .before .before .before .before .before .before .before .before .before .before .before .before .before .pre .1) _ _ (c .before .before .before .before .before .before .before .put-bytes .ensures) _ _ (c .before .before .before .put-number .ensures))
+put-edges-requires : tie.Need-put-edges-requires
+put-edges-requires c κs = (c .before .before .before .before .before .before .before .before .before .before .before .before .before .pre .0, days-lines _ _ _ _ (c .before .before .before .before .before .before .before .before .before .before .before .before .before .pre .1) _ _ (c .before .before .before .before .before .before .before .put-bytes .ensures) _ _ (c .before .before .before .put-number .ensures))
 
 returns : tie.Need-returns
-returns c = days-put _ _ _ _ (c .before .before .before .before .before .before .before .before .before .before .before .before .before .before .before .before .pre .1) _ _ (c .before .before .before .before .before .before .before .before .before .before .put-bytes .ensures) _ _ (c .before .before .before .before .before .before .put-number .ensures) _ _ (c .before .before .put-matches .ensures)
+returns c = days-put _ _ _ _ (c .before .before .before .before .before .before .before .before .before .before .before .before .before .before .before .before .pre .1) _ _ (c .before .before .before .before .before .before .before .before .before .before .put-bytes .ensures) _ _ (c .before .before .before .before .before .before .put-number .ensures) _ _ (c .before .before .put-edges .ensures)
 
 pub put-days-spec : {M : Type 1} → statement M
-put-days-spec = tie.close (tie.spec (λ c. search needs) put-bytes-requires put-number-requires put-matches-requires (λ c. search needs) returns)
+put-days-spec = tie.close (tie.spec (λ c. search needs) put-bytes-requires put-number-requires put-edges-requires (λ c. search needs) returns)
