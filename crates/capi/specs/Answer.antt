@@ -2,12 +2,12 @@
 use Prim.Native.Nat.{ℕ}
 use Rattle.graph.specs.Report.{Report, accepted, refused}
 
--- "The C interface returns 0 where the call accepted, or the refusal's number": no refusal has number 0.
+-- What a call returns to C: 0 where it accepted, or the refusal's number, which is never 0.
 abbrev pub code : {A : Type 0} → Report A → ℕ
 code (accepted values) = 0
 code (refused k) = k
 
--- It "hands reports back through pointers that are unchanged on a refusal": what the pointer holds afterwards, given what it held before.
+-- A report is handed back through a pointer, which is unchanged on a refusal: what it points to afterwards, given what it pointed to before.
 abbrev pub valueOr : ℕ → Report ℕ → ℕ
 valueOr before (accepted value) = value
 valueOr before (refused k) = before
@@ -17,7 +17,7 @@ abbrev pub partOr : {A : Type 0} → (A → ℕ) → ℕ → Report A → ℕ
 partOr part before (accepted values) = part values
 partOr part before (refused k) = before
 
--- "n, m and which tags stood", one by one.
+-- What a reading reports, n, m and which tags stood, one by one.
 abbrev pub Read : Type 0
 Read = ℕ × ℕ × ℕ
 

@@ -15,7 +15,7 @@ use Rattle.greedy.specs.declared.ColoringStrategy.the-variants as S
 use Rattle.capi.specs.declared.strategy.StrategyNumber.{StrategyNumber}
 use Rattle.capi.specs.declared.strategy.StrategyNumber.the-variants as N
 
--- "strategy: 0 Degree, 1 Saturation, 2 IndependentSet"
+-- 0 is Degree, 1 Saturation, 2 IndependentSet.
 unfoldable pub strategyOf : ℕ → Option ColoringStrategy
 strategyOf number = cond (eqb number 0) (some S.Degree) (cond (eqb number 1) (some S.Saturation) (cond (eqb number 2) (some S.IndependentSet) none))
 
@@ -24,7 +24,7 @@ abbrev pub strategyNamed : StrategyNumber → Option ColoringStrategy
 strategyNamed (N.Known strategy) = some strategy
 strategyNamed N.Unknown = none
 
--- "any other number answers 255 .. where the graph checks and 5 pass": given how many items there are.
+-- Any other number is answered by 255 where the graph checks and 5 pass: given how many items there are.
 unfoldable pub unknownStrategy : ℕ → ℕ → List ℕ → List ℕ → List ℕ → Outcome
 unknownStrategy items n ends presets colors = colored (itemChecks n ends items (length presets) (length colors) ++ (true gives 255) ∷ []) colors colors
 

@@ -59,7 +59,7 @@ greedyNodesPlain rule n ends colors = greedyItemsPlain rule (neighbors ends (edg
 
 -- ---- edges: "the same with m for n"
 
--- "The strategies over the line graph, its pairs being the edge list."
+-- "The strategies over the line graph, its pairs being the edge list"
 unfoldable pub edgeNeighbors : ℕ → List ℕ → ℕ → List ℕ
 edgeNeighbors n ends = let pairs = linePairs ends (edgeCount ends) n in neighbors pairs (edgeCount pairs)
 

@@ -22,7 +22,7 @@ module _ (nb : ℕ → List ℕ) where
   colorInOrder [] colors = colors
   colorInOrder (v ∷ vs) colors = colorInOrder vs (colorItem nb colors v)
 
-  -- "Presets are set first and never altered, even two equal ones side by side. The other nodes follow by deg falling, ties by node number rising."
+  -- "Presets are set first and never altered, even two equal ones side by side. The other nodes follow by deg falling, ties by node number rising"
   unfoldable pub degreeOrder : ℕ → List ℕ → List ℕ
   degreeOrder n presets = byDegree (uncolored presets n)
 

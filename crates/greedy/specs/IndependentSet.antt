@@ -22,7 +22,7 @@ pub record Lists : Type 0 where
   pub listed : List ℕ
   pub next : List ℕ
 
--- A listed item is "taken out .. and appended to the next list".
+-- A listed item is "taken out" of its list "and appended to the next list".
 unfoldable pub putOff : Lists → ℕ → Lists
 putOff s v = cond (elem v (s .listed)) (record { listed = takeOut v (s .listed); next = s .next ++ v ∷ [] }) s
 
@@ -57,7 +57,7 @@ module _ (nb : ℕ → List ℕ) where
       let s = putOffPresets presets r n (record { listed = listed; next = [] }) in
       colorListed r (length (s .listed)) s colors
 
-  -- "Then the next list takes the list's place and r grows by one, until there is no node left." Each round colours an item or uses up a preset, so n rounds are enough.
+  -- "Then the next list takes the list's place and r grows by one, until there is no node left": each round colours an item or uses up a preset, so n rounds are enough.
   unfoldable pub rounds : ℕ → List ℕ → ℕ → ℕ → List ℕ → List ℕ → List ℕ
   rounds n presets zero r listed colors = colors
   rounds n presets (suc more) r listed colors =

@@ -16,7 +16,7 @@ uncoloredAmong colors [] = 0
 uncoloredAmong colors (v ∷ vs) = cond (isColored colors v) (uncoloredAmong colors vs) (suc (uncoloredAmong colors vs))
 
 module _ (nb : ℕ → List ℕ) where
-  -- "the .. number of different colours on its neighbours"
+  -- the "number of different colours on its neighbours"
   unfoldable pub saturation : List ℕ → ℕ → ℕ
   saturation colors v = different (map (colorOf colors) (coloredAmong colors (nb v)))
 
@@ -53,7 +53,7 @@ module _ (nb : ℕ → List ℕ) where
         | v ∷ vs ↦ greatest colors v vs ∷ orderFrom n turns (colorItem nb colors (greatest colors v vs))
       ]
 
-  -- "Presets as above. The next node has the greatest number .."
+  -- "Presets as above": the turns begin with the presets' colours.
   unfoldable pub saturationColors : ℕ → List ℕ → List ℕ
   saturationColors n presets = saturationFrom n n presets
 

@@ -32,7 +32,7 @@ pub record LineOutcome : Type 0 where
 unfoldable pub lineChecks : ℕ → List ℕ → List ℕ → List Check
 lineChecks n ends list = graphChecks n ends ++ (ltb (length list) (length (linePairs ends (edgeCount ends) n)) gives 9) ∷ []
 
--- "the line list [reports] its pair count, numbers beyond 2 times that being unchanged"
+-- "Incidence reports the total; the line list its pair count, numbers beyond 2 times that being unchanged."
 unfoldable pub lineGraph : ℕ → List ℕ → List ℕ → LineOutcome
 lineGraph n ends list =
     let pairs = linePairs ends (edgeCount ends) n in

@@ -4,7 +4,7 @@ use Rattle.graph.specs.Report.{Report, accepted, refused, number}
 use Rattle.line_graph.specs.declared.LineList.{LineList}
 use Rattle.line_graph.specs.declared.LineList.the-variants as L
 
--- "the line list [reports] its pair count"
+-- The line list reports "its pair count".
 abbrev pub reportOfLineList : LineList → Report ℕ
 reportOfLineList (L.Accepted pairs) = accepted pairs
 reportOfLineList (L.Refused r) = refused (number r)
