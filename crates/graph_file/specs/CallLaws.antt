@@ -31,24 +31,24 @@ abbrev Sizes : Type 0
 Sizes = ℕ × ℕ × ℕ
 
 module _ (bytes lent : List ℕ) where
-  abbrev pub Outcome : Report Sizes → List ℕ → Type 0
-  Outcome report ends = (report ≡ readFile bytes lent .report) × (ends ≡ readFile bytes lent .ends)
+  abbrev pub IsOutcome : Report Sizes → List ℕ → Type 0
+  IsOutcome report ends = (report ≡ readFile bytes lent .report) × (ends ≡ readFile bytes lent .ends)
 
-  refuses : (k : ℕ) → firstRefusal (fileChecks bytes lent) ≡ some k → Outcome (refused k) lent
+  refuses : (k : ℕ) → firstRefusal (fileChecks bytes lent) ≡ some k → IsOutcome (refused k) lent
   unfolding readFile
   refuses k e = (answered-refused _ k _ e, written-refused _ k _ _ e)
 
   accepts : firstRefusal (fileChecks bytes lent) ≡ none
-      → let file = orEmpty (fileOf bytes) in Outcome (accepted (file .nodes, edgeCount (file .ends), file .tags)) (over (file .ends) lent)
+      → let file = orEmpty (fileOf bytes) in IsOutcome (accepted (file .nodes, edgeCount (file .ends), file .tags)) (over (file .ends) lent)
   unfolding readFile
   accepts e = (answered-accepted _ _ e, written-accepted _ _ _ e)
 
-  bad-file : fileOf bytes ≡ none → Outcome (refused 10) lent
+  bad-file : fileOf bytes ≡ none → IsOutcome (refused 10) lent
   unfolding fileChecks firstRefusal isNone
   bad-file e = refuses 10 (simp e)
 
   module _ (file : File) (e : fileOf bytes ≡ some file) where
-    short-list : length lent < 2 * edgeCount (file .ends) → Outcome (refused 5) lent
+    short-list : length lent < 2 * edgeCount (file .ends) → IsOutcome (refused 5) lent
     unfolding fileChecks firstRefusal isNone orEmpty
     short-list h = refuses 5 (simp (e, lt-ltb (length lent) (2 * edgeCount (file .ends)) h))
 
@@ -60,7 +60,7 @@ module _ (bytes lent : List ℕ) where
     unfolding orEmpty
     the-file = rw e
 
-    file-read : 2 * edgeCount (file .ends) ≤ length lent → Outcome (accepted (file .nodes, edgeCount (file .ends), file .tags)) (over (file .ends) lent)
+    file-read : 2 * edgeCount (file .ends) ≤ length lent → IsOutcome (accepted (file .nodes, edgeCount (file .ends), file .tags)) (over (file .ends) lent)
     file-read h =
         let o = accepts (passed h) in
         (ap (λ (x : File). accepted (x .nodes, edgeCount (x .ends), x .tags)) (sym the-file) ∙ o .0, ap (λ (x : File). over (x .ends) lent) (sym the-file) ∙ o .1)
@@ -68,7 +68,7 @@ module _ (bytes lent : List ℕ) where
   -- ---- the answers of the code
 
   module _ (r : FileLayout) (e : shownFile bytes r ≡ fileOf bytes) where
-    pub answer-bad : r ≡ L.Malformed → Outcome (refused 10) lent
+    pub answer-bad : r ≡ L.Malformed → IsOutcome (refused 10) lent
     unfolding shownFile
     answer-bad q = bad-file (sym e ∙ ap (shownFile bytes) q)
 
@@ -86,11 +86,11 @@ module _ (bytes lent : List ℕ) where
       unfolding fileThere
       count = omega (arith, part-numbers)
 
-      pub answer-short : length lent < 2 * g .edges → Outcome (refused 5) lent
+      pub answer-short : length lent < 2 * g .edges → IsOutcome (refused 5) lent
       answer-short h = short-list (fileThere bytes g) there (omega (arith, count))
 
       pub answer-read : 2 * g .edges ≤ length lent → (ends : List ℕ) → ends ≡ over (numbers (take (g .start + 4 * g .edges - g .start) (drop (g .start) bytes))) lent
-          → Outcome (accepted (g .nodes, g .edges, g .tags)) ends
+          → IsOutcome (accepted (g .nodes, g .edges, g .tags)) ends
       unfolding fileThere
       answer-read h ends w =
           let o = file-read (fileThere bytes g) there (omega (arith, count)) in
@@ -145,10 +145,10 @@ module _ (bytes lent : List ℕ) where
           kept = λ k p. let z : _≡_ {A = ℕ} 0 1 = cc in absurd (omega arith);
         }
 
-  pub file-reader : allBelow 256 bytes ≡ true → (report : Report Sizes) (ends : List ℕ) → Outcome report ends → FileReader bytes lent report ends
+  pub file-reader : allBelow 256 bytes ≡ true → (report : Report Sizes) (ends : List ℕ) → IsOutcome report ends → FileReader bytes lent report ends
   file-reader b report ends o = go (fileOf bytes) refl
     where
-      carried : (r : Report Sizes) (l : List ℕ) → Outcome r l → FileReader bytes lent r l → FileReader bytes lent report ends
+      carried : (r : Report Sizes) (l : List ℕ) → IsOutcome r l → FileReader bytes lent r l → FileReader bytes lent report ends
       carried r l p t = rw (o .0 ∙ sym (p .0), o .1 ∙ sym (p .1)) t
 
       go : (f : Option File) → fileOf bytes ≡ f → FileReader bytes lent report ends

@@ -8,9 +8,9 @@ use mathlib.Core.Option.{none, some, bind}
 use native.Mathlib.Omega.{arith}
 use lib.ListN.{length, getD, take, drop, length-drop}
 use lib.Seq.{drop-cons, drop-drop, length-take-le, getD-take, getD-drop}
-use lib.Dec.{eqb}
+use lib.Dec.{eqb, ltb}
 use borrow.Author.Tests.{lt-ltb, le-ltb, eq-eqb, ne-eqb}
-use Rattle.lists.specs.Tests.{dec-eq, false-and, and-false}
+use Rattle.lists.specs.Tests.{by-test, dec-eq, false-and, and-false}
 use Rattle.graph_file.specs.File.{number16, Field, firstField, fields, isEnds, afterNodes, isNodes, numberOf, graphOf, mostBytes, fileOf, tagBit}
 use Rattle.graph_file.specs.Places.{fieldThere, behind, shownField, fileThere, shownFile}
 use Rattle.graph_file.specs.FieldLaws.{first-truncated, first-whole, header-short, fields-then, fields-truncated, none-then, fields-end, fields-more}
@@ -147,22 +147,27 @@ module _ (bytes : List ℕ) where
   unfolding shownFile fileOf
   file-long h = (simp (lt-ltb mostBytes (length bytes) h), no-graph bytes)
 
-  module _ (h : length bytes ≤ mostBytes) (r : FieldAt) (e : shownField bytes r ≡ firstField (drop 0 bytes)) where
-    from-fields : fileOf bytes ≡ bind (fields bytes) graphOf
-    unfolding fileOf
-    from-fields = simp (le-ltb mostBytes (length bytes) h)
+  from-fields : length bytes ≤ mostBytes → fileOf bytes ≡ bind (fields bytes) graphOf
+  unfolding fileOf
+  from-fields h = simp (le-ltb mostBytes (length bytes) h)
 
+  -- Where the fields are not those of a graph, the length does not matter.
+  no-file : bind (fields bytes) graphOf ≡ none → fileOf bytes ≡ none
+  unfolding fileOf
+  no-file e = by-test (ltb mostBytes (length bytes)) (λ t. simp t) (λ t. simp (t, e))
+
+  module _ (r : FieldAt) (e : shownField bytes r ≡ firstField (drop 0 bytes)) where
     pub file-truncated : r ≡ A.Truncated → WholeAnswer L.Malformed
     unfolding shownFile graphOf
-    file-truncated q = (sym (from-fields ∙ fields-truncated bytes graphOf (truncated bytes 0 r e q) refl), no-graph bytes)
+    file-truncated q = (sym (no-file (fields-truncated bytes graphOf (truncated bytes 0 r e q) refl)), no-graph bytes)
 
     module _ (p : FieldPlace) (q : r ≡ A.Whole p) where
-      after-first : fileOf bytes ≡ bind (fields (behind bytes p)) (λ (fs : List Field). graphOf (fieldThere bytes p ∷ fs))
-      after-first = from-fields ∙ fields-then bytes _ _ graphOf (found bytes 0 r e p q)
+      after-first : bind (fields bytes) graphOf ≡ bind (fields (behind bytes p)) (λ (fs : List Field). graphOf (fieldThere bytes p ∷ fs))
+      after-first = fields-then bytes _ _ graphOf (found bytes 0 r e p q)
 
       wrong-field : isNodes (fieldThere bytes p) ≡ false → WholeAnswer L.Malformed
       unfolding shownFile
-      wrong-field b = (sym (after-first ∙ none-then (fields (behind bytes p)) _ (λ fs. not-nodes (fieldThere bytes p) fs b)), no-graph bytes)
+      wrong-field b = (sym (no-file (after-first ∙ none-then (fields (behind bytes p)) _ (λ fs. not-nodes (fieldThere bytes p) fs b))), no-graph bytes)
 
       pub nodes-tag : (p .tag ≡ 1 → ⊥) → WholeAnswer L.Malformed
       unfolding isNodes fieldThere
@@ -177,8 +182,8 @@ module _ (bytes : List ℕ) where
         unfolding numberOf
         nodes-number k = let z : p .start + 0 ≡ p .start = omega arith in rw (getD-take (p .length) (drop (p .start) bytes) 0 0 (omega arith), getD-take (p .length) (drop (p .start) bytes) 1 0 (omega arith), getD-drop (p .start) bytes 0 0, getD-drop (p .start) bytes 1 0, z)
 
-        pub nodes-read : p .tag ≡ 1 → p .length ≡ 2 → (n : ℕ) → n ≡ number16 (getD bytes (p .start) 0) (getD bytes (p .start + 1) 0)
+        pub nodes-read : length bytes ≤ mostBytes → p .tag ≡ 1 → p .length ≡ 2 → (n : ℕ) → n ≡ number16 (getD bytes (p .start) 0) (getD bytes (p .start + 1) 0)
             → (a : FileLayout) → shownFile bytes a ≡ bind (fields (drop (p .start + p .length) bytes)) (afterNodes n) → shownFile bytes a ≡ fileOf bytes
         unfolding isNodes fieldThere behind graphOf
-        nodes-read k₁ k₂ n s a t =
-            t ∙ sym (after-first ∙ simp (eq-eqb (p .tag) 1 k₁, eq-eqb (length (take (p .length) (drop (p .start) bytes))) 2 (field-size bytes p (inside p q) ∙ k₂), nodes-number k₂ ∙ sym s))
+        nodes-read h k₁ k₂ n s a t =
+            t ∙ sym (from-fields h ∙ after-first ∙ simp (eq-eqb (p .tag) 1 k₁, eq-eqb (length (take (p .length) (drop (p .start) bytes))) 2 (field-size bytes p (inside p q) ∙ k₂), nodes-number k₂ ∙ sym s))

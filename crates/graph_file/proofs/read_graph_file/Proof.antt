@@ -22,8 +22,14 @@ mul-if1 c = omega (arith, c .before .before .before .layout-of .ensures .1 _ (c 
 returns-2 : tie.Need-returns-2
 returns-2 c =
     let l = c .before .before .before .before .layout-of .ensures in
-    let o = answer-short _ (c .before .before .before .before .before .before .before .args .ends .now) _ (l .0) _ (c .before .before .file .given .1) (l .1) (c .if1 .taken) in
+    let o = answer-short _ (c .before .before .before .before .before .before .before .args .ends .now) _ (l .0) _ (c .before .before .file .given .1) (l .1) (omega arith) in
     (o .0, (o .1, file-reader _ _ (bytes-below (c .before .before .before .before .before .before)) _ _ o))
+
+returns-3 : tie.Need-returns-3
+returns-3 c =
+    let l = c .before .before .before .before .before .before .before .before .before .layout-of .ensures in
+    let o = answer-read _ (c .before .before .before .before .before .before .before .before .before .before .before .before .args .ends .now) _ (l .0) _ (c .before .before .before .before .before .before .before .file .given .1) (l .1) (c .before .before .before .before .before .if1 .left) _ (c .before .before .copy-numbers .ensures) in
+    (o .0, (o .1, file-reader _ _ (bytes-below (c .before .before .before .before .before .before .before .before .before .before .before)) _ _ o))
 
 add-copy-numbers : tie.Need-add-copy-numbers
 add-copy-numbers c = omega (arith, c .before .before .before .before .layout-of .ensures .1 _ (c .before .before .file .given .1))
@@ -35,12 +41,6 @@ copy-numbers-requires : tie.Need-copy-numbers-requires
 copy-numbers-requires c κs =
     let l = c .before .before .before .before .before .before .layout-of .ensures in
     room _ (c .before .before .before .before .before .before .before .before .before .args .ends .now) _ (l .0) _ (c .before .before .before .before .file .given .1) (l .1) (c .before .before .if1 .left)
-
-returns-3 : tie.Need-returns-3
-returns-3 c =
-    let l = c .before .before .before .before .before .before .before .before .before .layout-of .ensures in
-    let o = answer-read _ (c .before .before .before .before .before .before .before .before .before .before .before .before .args .ends .now) _ (l .0) _ (c .before .before .before .before .before .before .before .file .given .1) (l .1) (c .before .before .before .before .before .if1 .left) _ (c .before .before .copy-numbers .ensures) in
-    (o .0, (o .1, file-reader _ _ (bytes-below (c .before .before .before .before .before .before .before .before .before .before .before)) _ _ o))
 
 pub read-graph-file-spec : {M : Type 1} → statement M
 read-graph-file-spec =

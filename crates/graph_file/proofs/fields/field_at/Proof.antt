@@ -1,4 +1,5 @@
 -- `field_at` meets its contract: one law for each answer.
+use native.Mathlib.Omega.{arith}
 use borrow.Author.Needs.{needs}
 use Rattle.graph_file.specs.ReadLaws.{header-truncated, field-truncated, field-found}
 use Rattle.graph_file.proofs.fields.field_at.Statement.{statement}
@@ -8,7 +9,7 @@ returns : tie.Need-returns
 returns c = header-truncated _ (c .before .before .args .at) (c .if1 .taken)
 
 returns-2 : tie.Need-returns-2
-returns-2 c = field-truncated _ (c .before .before .before .before .args .at) _ (c .before .before .if1 .left) (c .before .number-at .ensures) (c .if2 .taken)
+returns-2 c = field-truncated (c .before .before .before .before .args .bytes .now) (c .before .before .before .before .args .at) (c .before .number-at .result) (c .before .before .if1 .left) (c .before .number-at .ensures) (omega arith)
 
 returns-3 : tie.Need-returns-3
 returns-3 c = field-found _ (c .before .before .before .before .before .args .at) _ (c .before .before .before .if1 .left) (c .before .before .number-at .ensures) (c .before .if2 .left)

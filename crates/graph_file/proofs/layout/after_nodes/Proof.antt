@@ -14,13 +14,13 @@ returns-2 : tie.Need-returns-2
 returns-2 c =
     let s = c .before .before .before .before .before .before .before .args in
     let f = c .before .before .before .before .before .field-at .ensures in
-    ends-tag _ (s .at) _ (f .0) (s .nodes) _ (c .before .before .before .field .given .1) (c .if1 .taken)
+    ends-tag _ (s .at) _ (f .0) (s .nodes) _ (c .before .before .before .field .given .1) (λ z. omega arith)
 
 returns-3 : tie.Need-returns-3
 returns-3 c =
     let s = c .before .before .before .before .before .before .before .before .before .args in
     let f = c .before .before .before .before .before .before .before .field-at .ensures in
-    ends-length _ (s .at) _ (f .0) (s .nodes) _ (c .before .before .before .before .before .field .given .1) (f .1) (c .if2 .taken)
+    ends-length _ (s .at) _ (f .0) (s .nodes) _ (c .before .before .before .before .before .field .given .1) (f .1) (λ z. omega arith)
 
 add-if3 : tie.Need-add-if3
 add-if3 c = omega (arith, c .before .before .before .before .before .before .before .before .field-at .ensures .1 _ (c .before .before .before .before .before .before .field .given .1))
@@ -29,7 +29,7 @@ returns-4 : tie.Need-returns-4
 returns-4 c =
     let s = c .before .before .before .before .before .before .before .before .before .before .before .args in
     let f = c .before .before .before .before .before .before .before .before .before .field-at .ensures in
-    ends-more _ (s .at) _ (f .0) (s .nodes) _ (c .before .before .before .before .before .before .before .field .given .1) (f .1) (c .if3 .taken)
+    ends-more _ (s .at) _ (f .0) (s .nodes) _ (c .before .before .before .before .before .before .before .field .given .1) (f .1) (λ z. omega arith)
 
 returns-5 : tie.Need-returns-5
 returns-5 c =

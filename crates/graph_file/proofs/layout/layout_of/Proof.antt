@@ -6,18 +6,24 @@ use Rattle.graph_file.proofs.layout.layout_of.Statement.{statement}
 use Rattle.graph_file.proofs.layout.layout_of.Tie as tie
 
 returns : tie.Need-returns
-returns c = file-long _ (c .if1 .taken)
+returns c = file-long _ (omega arith)
 
 returns-2 : tie.Need-returns-2
-returns-2 c = file-truncated _ (c .before .before .before .if1 .left) _ (c .before .before .field-at .ensures .0) (c .enum-told .given .1)
+returns-2 c = file-truncated _ _ (c .before .before .field-at .ensures .0) (c .enum-told .given .1)
 
 returns-3 : tie.Need-returns-3
-returns-3 c = nodes-tag _ (c .before .before .before .before .before .before .if1 .left) _ (c .before .before .before .before .before .field-at .ensures .0) _ (c .before .before .before .field .given .1) (c .if2 .taken)
+returns-3 c = nodes-tag _ _ (c .before .before .before .before .before .field-at .ensures .0) _ (c .before .before .before .field .given .1) (λ z. omega arith)
 
 returns-4 : tie.Need-returns-4
 returns-4 c =
     let f = c .before .before .before .before .before .before .before .field-at .ensures in
-    nodes-length _ (c .before .before .before .before .before .before .before .before .if1 .left) _ (f .0) _ (c .before .before .before .before .before .field .given .1) (f .1) (c .if3 .taken)
+    nodes-length _ _ (f .0) _ (c .before .before .before .before .before .field .given .1) (f .1) (λ z. omega arith)
+
+returns-5 : tie.Need-returns-5
+returns-5 c =
+    let f = c .before .before .before .before .before .before .before .before .before .before .field-at .ensures in
+    let a = c .after-nodes .ensures in
+    (nodes-read _ _ (f .0) _ (c .before .before .before .before .before .before .before .before .field .given .1) (f .1) (c .before .before .before .before .before .before .before .before .before .before .before .if1 .left) (c .before .before .before .before .before .if2 .left) (c .before .before .before .if3 .left) _ (c .before .before .number-at .ensures) _ (a .0), a .1)
 
 number-at-requires : tie.Need-number-at-requires
 number-at-requires c κs = omega (arith, c .before .before .before .before .before .before .before .field-at .ensures .1 _ (c .before .before .before .before .before .field .given .1))
@@ -27,12 +33,6 @@ add-after-nodes c = omega (arith, c .before .before .before .before .before .bef
 
 after-nodes-requires : tie.Need-after-nodes-requires
 after-nodes-requires c κs = c .before .before .before .before .before .before .before .before .before .field-at .ensures .1 _ (c .before .before .before .before .before .before .before .field .given .1)
-
-returns-5 : tie.Need-returns-5
-returns-5 c =
-    let f = c .before .before .before .before .before .before .before .before .before .before .field-at .ensures in
-    let a = c .after-nodes .ensures in
-    (nodes-read _ (c .before .before .before .before .before .before .before .before .before .before .before .if1 .left) _ (f .0) _ (c .before .before .before .before .before .before .before .before .field .given .1) (f .1) (c .before .before .before .before .before .if2 .left) (c .before .before .before .if3 .left) _ (c .before .before .number-at .ensures) _ (a .0), a .1)
 
 pub layout-of-spec : {M : Type 1} → statement M
 layout-of-spec =

@@ -11,26 +11,26 @@ use Rattle.graph_file.proofs.numbers.copy_numbers.Statement.{statement}
 use Rattle.graph_file.proofs.numbers.copy_numbers.Tie as tie
 
 abbrev Inv-loop : tie.InvT-loop
-Inv-loop bytes list₀ count i₀ list i = (i ≤ count) × (count ≡ length bytes / 2) × (length list ≡ length list₀) × (list ≡ take i (numbers bytes) ++ drop i list₀)
+Inv-loop bytes list₀ count i₀ list i = (list ≡ take i (numbers bytes) ++ drop i list₀) × (i ≤ count) × (count ≡ length bytes / 2) × (length list ≡ length list₀)
 
 abbrev μ-loop : tie.MeasureT-loop
 μ-loop bytes list₀ count i₀ list i = count - i
 
 loop-holds : tie.Need-loop-holds Inv-loop μ-loop
-loop-holds c = (omega arith, refl, refl, refl)
-
-slice-write-list : tie.Need-slice-write-list Inv-loop μ-loop
-slice-write-list c =
-    let s = c .before .before .before .before .before in
-    omega (arith, s .pre, length-numbers (s .args .bytes .now), c .before .before .loop .inv .2)
+loop-holds c = (refl, omega arith, refl, refl)
 
 loop-again : tie.Need-loop-again Inv-loop μ-loop
 loop-again c =
     let l = c .before .before .loop in
-    (omega arith, l .inv .1, simp length-set (l .inv .2), number-copied _ _ _ (l .i) _ (l .inv .3) (omega arith) (c .before .before .before .before .before .pre) (c .number-at .ensures))
+    (number-copied _ _ _ (l .i) _ (l .inv .0) (omega arith) (c .before .before .before .before .before .pre) (c .number-at .ensures), omega arith, l .inv .2, simp length-set (l .inv .3))
 
 returns : tie.Need-returns Inv-loop μ-loop
-returns c = let l = c .before .loop in all-copied _ _ _ (l .i) (l .inv .3) (omega arith) (omega arith)
+returns c = let l = c .before .loop in all-copied _ _ _ (l .i) (l .inv .0) (omega arith) (omega arith)
+
+slice-write-list : tie.Need-slice-write-list Inv-loop μ-loop
+slice-write-list c =
+    let s = c .before .before .before .before .before in
+    omega (arith, s .pre, length-numbers (s .args .bytes .now), c .before .before .loop .inv .3)
 
 pub copy-numbers-spec : {M : Type 1} → statement M
 copy-numbers-spec =

@@ -7,6 +7,10 @@ use Rattle.graph_file.specs.File.{number16}
 use Rattle.graph_file.proofs.numbers.number_at.Statement.{statement}
 use Rattle.graph_file.proofs.numbers.number_at.Tie as tie
 
+returns : tie.Need-returns
+unfolding number16
+returns c = refl
+
 cast-low : tie.Need-cast-low
 cast-low c = omega (arith, c .shared-slice-known .given (c .before .args .at))
 
@@ -18,10 +22,6 @@ mul-result c = omega (arith, c .before .shared-slice-known .given (c .before .be
 
 add-result : tie.Need-add-result
 add-result c = omega (arith, c .before .shared-slice-known .given (c .before .before .args .at), c .shared-slice-known2 .given (c .before .before .args .at + 1))
-
-returns : tie.Need-returns
-unfolding number16
-returns c = refl
 
 pub number-at-spec : {M : Type 1} → statement M
 number-at-spec =
