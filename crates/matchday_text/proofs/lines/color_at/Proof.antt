@@ -6,11 +6,11 @@ use Rattle.graph.specs.ColoredLaws.{color-read, color-outside}
 use Rattle.matchday_text.proofs.lines.color_at.Statement.{statement}
 use Rattle.matchday_text.proofs.lines.color_at.Tie as tie
 
-cast-result : tie.Need-cast-result
-cast-result c = omega (arith, c .shared-slice-known .given (c .before .before .before .args .edge .0))
-
 returns : tie.Need-returns
 returns c = color-read _ _ _ (c .before .if1 .taken)
+
+cast-result : tie.Need-cast-result
+cast-result c = omega (arith, c .shared-slice-known .given (c .before .before .before .args .edge .0))
 
 returns-2 : tie.Need-returns-2
 returns-2 c = sym (color-outside _ _ (c .if1 .left))

@@ -4,6 +4,9 @@ use Rattle.matchday_text.specs.PutLaws.{days-word, days-number, days-lin
 use Rattle.matchday_text.proofs.lines.put_days.Statement.{statement}
 use Rattle.matchday_text.proofs.lines.put_days.Tie as tie
 
+returns : tie.Need-returns
+returns c = days-put _ _ _ _ (c .before .before .before .before .before .before .before .before .before .before .before .before .before .before .before .before .pre .1) _ _ (c .before .before .before .before .before .before .before .before .before .before .put-bytes .ensures) _ _ (c .before .before .before .before .before .before .put-number .ensures) _ _ (c .before .before .put-edges .ensures)
+
 put-bytes-requires : tie.Need-put-bytes-requires
 put-bytes-requires c κs = days-word (c .before .before .before .before .before .args .text .now) _ _ _ (c .before .before .before .before .before .pre .1)
 
@@ -12,9 +15,6 @@ put-number-requires c κs = days-number _ _ _ _ (c .before .before .before .befo
 
 put-edges-requires : tie.Need-put-edges-requires
 put-edges-requires c κs = (c .before .before .before .before .before .before .before .before .before .before .before .before .before .pre .0, days-lines _ _ _ _ (c .before .before .before .before .before .before .before .before .before .before .before .before .before .pre .1) _ _ (c .before .before .before .before .before .before .before .put-bytes .ensures) _ _ (c .before .before .before .put-number .ensures))
-
-returns : tie.Need-returns
-returns c = days-put _ _ _ _ (c .before .before .before .before .before .before .before .before .before .before .before .before .before .before .before .before .pre .1) _ _ (c .before .before .before .before .before .before .before .before .before .before .put-bytes .ensures) _ _ (c .before .before .before .before .before .before .put-number .ensures) _ _ (c .before .before .put-edges .ensures)
 
 pub put-days-spec : {M : Type 1} → statement M
 put-days-spec = tie.close (tie.spec (λ c. search needs) put-bytes-requires put-number-requires put-edges-requires (λ c. search needs) returns)

@@ -12,24 +12,24 @@ use Rattle.matchday_text.proofs.lines.put_edges.Statement.{statement}
 use Rattle.matchday_text.proofs.lines.put_edges.Tie as tie
 
 abbrev Inv-loop : tie.InvT-loop
-Inv-loop text₀ at ends colors m next₀ k₀ text next k = (k ≤ edgeCount ends) × (length text ≡ length text₀) × Put text₀ at (edgeLines ends colors k) text next
+Inv-loop text₀ at ends colors m next₀ k₀ text next k = Put text₀ at (edgeLines ends colors k) text next × (k ≤ edgeCount ends) × (length text ≡ length text₀)
 
 abbrev μ-loop : tie.MeasureT-loop
 μ-loop text₀ at ends colors m next₀ k₀ text next k = edgeCount ends - k
 
 loop-holds : tie.Need-loop-holds Inv-loop μ-loop
-loop-holds c = (omega arith, refl, line-none _ _ _ _)
-
-put-edge-requires : tie.Need-put-edge-requires Inv-loop μ-loop
-put-edge-requires c κs = line-room _ _ _ _ _ _ _ _ (c .before .loop-test .taken) (c .before .before .before .before .before .before .pre .1) (c .before .before .loop .inv .2)
+loop-holds c = (line-none _ _ _ _, omega arith, refl)
 
 loop-again : tie.Need-loop-again Inv-loop μ-loop
 loop-again c =
     let l = c .before .before .before .before .before .loop in
-    (omega (arith, c .before .before .before .before .loop-test .taken), c .before .before .put-edge .kept .0 ∙ l .inv .1, line-more _ _ _ _ _ _ _ _ _ (l .inv .2) (c .before .before .put-edge .ensures))
+    (line-more _ _ _ _ _ _ _ _ _ (l .inv .0) (c .before .before .put-edge .ensures), omega (arith, c .before .before .before .before .loop-test .taken), c .before .before .put-edge .kept .0 ∙ l .inv .2)
 
 returns : tie.Need-returns Inv-loop μ-loop
-returns c = line-all _ _ _ _ _ _ _ _ (c .loop-test .left) (c .before .loop .inv .0) (c .before .loop .inv .2)
+returns c = line-all _ _ _ _ _ _ _ _ (c .loop-test .left) (c .before .loop .inv .1) (c .before .loop .inv .0)
+
+put-edge-requires : tie.Need-put-edge-requires Inv-loop μ-loop
+put-edge-requires c κs = line-room _ _ _ _ _ _ _ _ (c .before .loop-test .taken) (c .before .before .before .before .before .before .pre .1) (c .before .before .loop .inv .0)
 
 pub put-edges-spec : {M : Type 1} → statement M
 put-edges-spec =

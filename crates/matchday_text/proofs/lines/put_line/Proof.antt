@@ -4,6 +4,9 @@ use Rattle.matchday_text.specs.PutLaws.{line-first, line-second, line-th
 use Rattle.matchday_text.proofs.lines.put_line.Statement.{statement}
 use Rattle.matchday_text.proofs.lines.put_line.Tie as tie
 
+returns : tie.Need-returns
+returns c = line-put _ _ _ _ _ _ (c .before .before .before .before .before .before .before .before .before .before .before .before .before .before .before .before .before .before .before .before .pre) _ _ (c .before .before .before .before .before .before .before .before .before .before .before .before .before .before .before .before .put-number .ensures) _ _ (c .before .before .before .before .before .before .before .before .before .before .before .put-number2 .ensures) _ _ (c .before .before .before .before .before .before .put-number3 .ensures) _ _ (c .before .before .put-number4 .ensures)
+
 put-number-requires : tie.Need-put-number-requires
 put-number-requires c κs = line-first (c .before .before .before .args .text .now) _ _ _ _ _ (c .before .before .before .pre)
 
@@ -15,9 +18,6 @@ put-number-requires-3 c κs = line-third _ _ _ _ _ _ (c .before .before .before 
 
 put-number-requires-4 : tie.Need-put-number-requires-4
 put-number-requires-4 c κs = line-fourth _ _ _ _ _ _ (c .before .before .before .before .before .before .before .before .before .before .before .before .before .before .before .before .before .pre) _ _ (c .before .before .before .before .before .before .before .before .before .before .before .before .before .put-number .ensures) _ _ (c .before .before .before .before .before .before .before .before .put-number2 .ensures) _ _ (c .before .before .before .put-number3 .ensures)
-
-returns : tie.Need-returns
-returns c = line-put _ _ _ _ _ _ (c .before .before .before .before .before .before .before .before .before .before .before .before .before .before .before .before .before .before .before .before .pre) _ _ (c .before .before .before .before .before .before .before .before .before .before .before .before .before .before .before .before .put-number .ensures) _ _ (c .before .before .before .before .before .before .before .before .before .before .before .put-number2 .ensures) _ _ (c .before .before .before .before .before .before .put-number3 .ensures) _ _ (c .before .before .put-number4 .ensures)
 
 pub put-line-spec : {M : Type 1} → statement M
 put-line-spec =

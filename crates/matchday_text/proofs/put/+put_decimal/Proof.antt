@@ -34,9 +34,9 @@ pub +put-decimal-spec : {M : Type 1} → statement M
     put-decimal.Post
     (λ c. omega arith)
     (λ c. omega arith)
-    (λ c κs. room-digit _ _ (c .before .if1 .taken) (c .before .before .before .pre .1))
+    (λ c κs. room-digit _ (c .before .before .before .args .x) (omega arith) (c .before .before .before .pre .1))
     (λ c. search needs)
-    (λ c. put-digit _ _ _ _ _ (c .before .before .before .before .if1 .taken) (c .before .before .put .ensures))
+    (λ c. put-digit _ _ (c .before .before .before .before .before .before .args .x) _ _ (omega arith) (c .before .before .put .ensures))
     (λ c κs. (omega (arith, c .before .if1 .left, c .before .before .before .pre .0), room-tenth _ _ (c .before .if1 .left) (c .before .before .before .pre .1)))
     (λ c. omega arith)
     (λ c. omega arith)
