@@ -4,10 +4,10 @@ use mathlib.Core.List.{List, _++_}
 use mathlib.Core.Path.{_≡_}
 use Rattle.lists.specs.Tests.{true-and}
 use Rattle.graph.specs.Rows.{Row, allHold, rows-append}
-use Rattle.wulgranite.specs.TwoColorRows as two-color
+use Rattle.two_color.specs.Examples as two-color
 use Rattle.line_graph.specs.Examples as line-graph
 use Rattle.greedy.specs.Examples as greedy
-use Rattle.wulgranite.specs.MisraGriesRows as misra-gries
+use Rattle.vizing.specs.Answers as misra-gries
 
 -- P1 to P5, P11, P6 to P10 and P12, P13 and P14, with the rows that see what these miss.
 abbrev pub rows : List Row

@@ -1,4 +1,2 @@
 -- The proof sheet's cases, held against the definitions that the contracts cite.
-pub mod TwoColorRows
-pub mod MisraGriesRows
 pub mod Examples
