@@ -17,15 +17,15 @@ Inv-loop ends starts entries node seen₀ stamp at₀ seen at =
 abbrev μ-loop : tie.MeasureT-loop
 μ-loop ends starts entries node seen₀ stamp at₀ seen at = length (stretch starts entries (node .0)) - at
 
-returns : tie.Need-returns Inv-loop μ-loop
-returns c = let end = step-end _ _ _ (c .before .before .edge-at .ensures) (c .enum-told .given .1) in search (needs, seen-all)
-
--- The edge at the walk's place, its far end, and the place after it.
-slice-read-if1 : tie.Need-slice-read-if1 Inv-loop μ-loop
-slice-read-if1 c = let edge = step-far _ _ _ _ _ _ _ _ (c .before .before .before .before .before .before .edge-at .ensures) (c .before .before .before .before .edge .given .1) (c .before .before .far-end .ensures) in search (needs, seen-room)
+-- At an edge: its far end, and the place after it.
+loop-again : tie.Need-loop-again Inv-loop μ-loop
+loop-again c = let edge = step-far _ _ _ _ _ _ _ _ (c .before .before .before .before .before .before .before .edge-at .ensures) (c .before .before .before .before .before .edge .given .1) (c .before .before .before .far-end .ensures) in search (needs, seen-more, seen-room)
 
 returns-2 : tie.Need-returns-2 Inv-loop μ-loop
 returns-2 c = let edge = step-far _ _ _ _ _ _ _ _ (c .before .before .before .before .before .before .before .edge-at .ensures) (c .before .before .before .before .before .edge .given .1) (c .before .before .before .far-end .ensures) in search (needs, seen-twice)
+
+slice-read-if1 : tie.Need-slice-read-if1 Inv-loop μ-loop
+slice-read-if1 c = let edge = step-far _ _ _ _ _ _ _ _ (c .before .before .before .before .before .before .edge-at .ensures) (c .before .before .before .before .edge .given .1) (c .before .before .far-end .ensures) in search (needs, seen-room)
 
 slice-write-seen : tie.Need-slice-write-seen Inv-loop μ-loop
 slice-write-seen c = let edge = step-far _ _ _ _ _ _ _ _ (c .before .before .before .before .before .before .before .edge-at .ensures) (c .before .before .before .before .before .edge .given .1) (c .before .before .before .far-end .ensures) in search (needs, seen-room)
@@ -33,8 +33,9 @@ slice-write-seen c = let edge = step-far _ _ _ _ _ _ _ _ (c .before .before .bef
 loop-less : tie.Need-loop-less Inv-loop μ-loop
 loop-less c = let edge = step-far _ _ _ _ _ _ _ _ (c .before .before .before .before .before .before .before .edge-at .ensures) (c .before .before .before .before .before .edge .given .1) (c .before .before .before .far-end .ensures) in omega arith
 
-loop-again : tie.Need-loop-again Inv-loop μ-loop
-loop-again c = let edge = step-far _ _ _ _ _ _ _ _ (c .before .before .before .before .before .before .before .edge-at .ensures) (c .before .before .before .before .before .edge .given .1) (c .before .before .before .far-end .ensures) in search (needs, seen-more, seen-room)
+-- At the end of the walk.
+returns : tie.Need-returns Inv-loop μ-loop
+returns c = let end = step-end _ _ _ (c .before .before .edge-at .ensures) (c .enum-told .given .1) in search (needs, seen-all)
 
 pub node-has-double-spec : {M : Type 1} → statement M
 node-has-double-spec =
