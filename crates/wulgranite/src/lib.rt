@@ -1,4 +1,8 @@
-// Graph colouring for calendars: every public call and type in one place.
+// Graph colouring for calendars: the calls and types for users, in one place. Left out are the functions that the crates have for
+// one another, each a part of a call here: the checks and the strategies one by one (`check_nodes`, `degree::color_nodes` and their
+// like, among which `ColoringStrategy` chooses), the steps of Saturation, IndependentSet and Misra-Gries (in items, listing,
+// edge_table, fan, simple_graph), `incidence_front`, `days_of`, `copy_colors`, `end_at` and `step_at`. `matchday_text` is left out
+// too: its text is the program's, not a colouring.
 pub use graph::Checked;
 pub use graph::Color;
 pub use graph::Coloring;
@@ -23,6 +27,8 @@ pub use greedy_color::greedy_node_color_with_coloring_strategy;
 pub use greedy_color::greedy_node_color_with_preset_colors;
 pub use incidence::incidence;
 pub use line_graph::LineList;
+pub use line_graph::edge_of_node;
 pub use line_graph::line_graph;
+pub use line_graph::node_of_edge;
 pub use misra_gries::misra_gries_edge_color;
 pub use two_color::two_color;
