@@ -1,6 +1,7 @@
 // The calls: each lends so much of its slices as its line says, calls, and prints the answer.
 use crate::input::narrow;
 use crate::lent::cut;
+use crate::lent::cut_after;
 use crate::lent::cut_bytes;
 use crate::lent::lend;
 use crate::lent::lend_bytes;
@@ -17,6 +18,8 @@ use crate::output::put_report;
 use graph::Coloring;
 use graph::IncidenceAnswer;
 use graph::NodeIndex;
+use graph::WalkStep;
+use graph::edge_at;
 use graph::edges_at;
 use graph_file::FileAnswer;
 use greedy::ColoringStrategy;
@@ -123,6 +126,60 @@ fn call_edges_at(
     let end = put_all(text, waiting, b"edges_at:");
     let end = put_part(text, end, edges);
     put(text, end, b'\n')
+}
+
+// One step of a walk: the edge, or the word that says the end.
+fn put_step(text: &mut [u8], waiting: usize, step: WalkStep) -> usize {
+    match step {
+        WalkStep::End => put_all(text, waiting, b" end"),
+        WalkStep::Edge(edge, _next) => {
+            let end = put(text, waiting, b' ');
+            put_number(text, end, edge.0 as u64)
+        }
+    }
+}
+
+// What a walk meets from this place on: the edges before place `count`, and what stands there.
+fn put_walk(
+    text: &mut [u8],
+    waiting: usize,
+    starts: &[u16],
+    entries: &[u16],
+    node: NodeIndex,
+    place: usize,
+    count: usize,
+) -> usize {
+    let mut end = waiting;
+    let mut at = place;
+    while at < count {
+        end = put_step(text, end, edge_at(starts, entries, node, at));
+        at += 1;
+    }
+    end = put_step(text, end, edge_at(starts, entries, node, at));
+    put(text, end, b'\n')
+}
+
+// A walk over one node's edges in the graph's own table. A graph that is refused leaves the slices as lent, which give no edges.
+fn call_edge_walk(
+    text: &mut [u8],
+    waiting: usize,
+    n: usize,
+    ends: &[u16],
+    line: Line,
+    list: &mut [u16],
+    entries: &mut [u16],
+) -> usize {
+    let s = cut_after(n, list);
+    let e = cut(ends.len(), entries);
+    let starts = &mut list[..s];
+    let entries = &mut entries[..e];
+    lend(starts);
+    lend(entries);
+    incidence::incidence(n, ends, starts, entries);
+    let end = put_all(text, waiting, b"edge_walk:");
+    let node = NodeIndex(narrow(line.first));
+    let count = edges_at(starts, entries, node).len();
+    put_walk(text, end, starts, entries, node, line.second, count)
 }
 
 fn call_two_color(
@@ -353,7 +410,7 @@ fn call_matchdays(
 }
 
 // The line's call; a line that is none prints nothing.
-pub fn call(
+pub(crate) fn call(
     text: &mut [u8],
     waiting: usize,
     line: Line,
@@ -376,6 +433,7 @@ pub fn call(
     match name {
         Name::Incidence => call_incidence(text, waiting, n, ends, line, list, entries),
         Name::EdgesAt => call_edges_at(text, waiting, line, list, entries),
+        Name::EdgeWalk => call_edge_walk(text, waiting, n, ends, line, list, entries),
         Name::TwoColor => call_two_color(text, waiting, n, ends, line, bytes),
         Name::LineGraph => call_line_graph(text, waiting, n, ends, line, list),
         Name::GreedyNodeColor => call_node_color(text, waiting, n, ends, line, list),

@@ -28,7 +28,7 @@ impl Cursor {
         }
     }
 
-    pub fn start(buffer: &mut [u8]) -> Self {
+    pub(crate) fn start(buffer: &mut [u8]) -> Self {
         refilled(buffer, Self::MOST_BYTES)
     }
 }
@@ -50,7 +50,7 @@ fn refilled(buffer: &mut [u8], left: usize) -> Cursor
 }
 
 // The place after input.
-pub fn next(buffer: &mut [u8], input: Cursor) -> Cursor
+pub(crate) fn next(buffer: &mut [u8], input: Cursor) -> Cursor
     ensures { λ r. ⌜ r .left ≤ input .left - 1 ⌝ }
 {
     let left = input.left;
@@ -74,7 +74,7 @@ pub fn next(buffer: &mut [u8], input: Cursor) -> Cursor
 }
 
 // The next line's first byte.
-pub fn skip_line(buffer: &mut [u8], input: Cursor) -> Cursor
+pub(crate) fn skip_line(buffer: &mut [u8], input: Cursor) -> Cursor
     ensures { λ r. ⌜ r .left ≤ input .left - 1 ⌝ }
 {
     let mut here = input;

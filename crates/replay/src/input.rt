@@ -27,7 +27,7 @@ fn ends_word(byte: u8) -> bool {
 }
 
 // The bytes up to a space or the line's end, as many as word holds.
-pub fn read_word(buffer: &mut [u8], input: Cursor, word: &mut [u8]) -> ListRead
+pub(crate) fn read_word(buffer: &mut [u8], input: Cursor, word: &mut [u8]) -> ListRead
     ensures { λ r. ⌜ Counts (r .count) (now (word .exit)) ⌝ }
     ensures { λ r. ⌜ r .input .left ≤ input .left ⌝ }
 {
@@ -79,7 +79,7 @@ fn with_digit(value: usize, digit: usize) -> usize
 }
 
 // The next number of the line, or 0 where none is there.
-pub fn read_number(buffer: &mut [u8], input: Cursor) -> NumberRead
+pub(crate) fn read_number(buffer: &mut [u8], input: Cursor) -> NumberRead
     ensures { λ r. ⌜ r .input .left ≤ input .left ⌝ }
 {
     let mut here = skip_space(buffer, input);
@@ -96,14 +96,14 @@ pub fn read_number(buffer: &mut [u8], input: Cursor) -> NumberRead
 }
 
 // A number as a slice holds it; one that is too large becomes the greatest.
-pub fn narrow(value: usize) -> u16
+pub(crate) fn narrow(value: usize) -> u16
     ensures { λ r. ⌜ (value ≤ 65535 → r ≡ value) ⌝ }
 {
     if value > 65535 { 65535 } else { value as u16 }
 }
 
 // A length and that many numbers, as many as list holds.
-pub fn read_list(buffer: &mut [u8], input: Cursor, list: &mut [u16]) -> ListRead
+pub(crate) fn read_list(buffer: &mut [u8], input: Cursor, list: &mut [u16]) -> ListRead
     ensures { λ r. ⌜ Counts (r .count) (now (list .exit)) ⌝ }
     ensures { λ r. ⌜ r .input .left ≤ input .left ⌝ }
 {
@@ -127,7 +127,7 @@ fn narrow_byte(value: usize) -> u8
     if value > 255 { 255 } else { value as u8 }
 }
 
-pub fn read_bytes(buffer: &mut [u8], input: Cursor, bytes: &mut [u8]) -> ListRead
+pub(crate) fn read_bytes(buffer: &mut [u8], input: Cursor, bytes: &mut [u8]) -> ListRead
     ensures { λ r. ⌜ Counts (r .count) (now (bytes .exit)) ⌝ }
     ensures { λ r. ⌜ r .input .left ≤ input .left ⌝ }
 {

@@ -5,7 +5,7 @@ ghost use Rattle.io.specs.Counts.{Counts};
 ghost use Rattle.replay.specs.Lent.{numberAt, byteAt, Lent};
 
 // As many of list's numbers as are wanted, or all that it has.
-pub fn cut(wanted: usize, list: &[u16]) -> usize
+pub(crate) fn cut(wanted: usize, list: &[u16]) -> usize
     ensures { λ r. ⌜ Counts r (now (list .entry)) ⌝ }
 {
     if wanted < list.len() {
@@ -16,13 +16,24 @@ pub fn cut(wanted: usize, list: &[u16]) -> usize
 }
 
 // The same of bytes.
-pub fn cut_bytes(wanted: usize, bytes: &[u8]) -> usize
+pub(crate) fn cut_bytes(wanted: usize, bytes: &[u8]) -> usize
     ensures { λ r. ⌜ Counts r (now (bytes .entry)) ⌝ }
 {
     if wanted < bytes.len() {
         wanted
     } else {
         bytes.len()
+    }
+}
+
+// One number more than `before`, or all that list has: the starts of a table with so many nodes.
+pub(crate) fn cut_after(before: usize, list: &[u16]) -> usize
+    ensures { λ r. ⌜ Counts r (now (list .entry)) ⌝ }
+{
+    if before < list.len() {
+        before + 1
+    } else {
+        list.len()
     }
 }
 
@@ -39,7 +50,7 @@ fn byte_at(i: usize) -> u8
     (100 + i % 100) as u8
 }
 
-pub fn lend(list: &mut [u16])
+pub(crate) fn lend(list: &mut [u16])
     ensures { λ _. ⌜ Lent numberAt (now (list .exit)) ⌝ }
 {
     let mut i = 0;
@@ -49,7 +60,7 @@ pub fn lend(list: &mut [u16])
     }
 }
 
-pub fn lend_bytes(bytes: &mut [u8])
+pub(crate) fn lend_bytes(bytes: &mut [u8])
     ensures { λ _. ⌜ Lent byteAt (now (bytes .exit)) ⌝ }
 {
     let mut i = 0;
@@ -59,7 +70,7 @@ pub fn lend_bytes(bytes: &mut [u8])
     }
 }
 
-pub fn unchanged(list: &[u16]) -> bool
+pub(crate) fn unchanged(list: &[u16]) -> bool
     ensures { λ r. ⌜ (r ≡ true → Lent numberAt (now (list .entry))) × (Lent numberAt (now (list .entry)) → r ≡ true) ⌝ }
 {
     let mut i = 0;
@@ -72,7 +83,7 @@ pub fn unchanged(list: &[u16]) -> bool
     true
 }
 
-pub fn unchanged_bytes(bytes: &[u8]) -> bool
+pub(crate) fn unchanged_bytes(bytes: &[u8]) -> bool
     ensures { λ r. ⌜ (r ≡ true → Lent byteAt (now (bytes .entry))) × (Lent byteAt (now (bytes .entry)) → r ≡ true) ⌝ }
 {
     let mut i = 0;

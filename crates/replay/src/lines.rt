@@ -26,7 +26,7 @@ pub struct Sizes {
 }
 
 impl Sizes {
-    pub fn none() -> Self {
+    pub(crate) fn none() -> Self {
         Sizes {
             nodes: 0,
             ends: 0,
@@ -35,7 +35,7 @@ impl Sizes {
         }
     }
 
-    pub fn after(self, line: Line) -> Self {
+    pub(crate) fn after(self, line: Line) -> Self {
         let name = line.name;
         match name {
             Name::Graph => Sizes {
@@ -149,7 +149,7 @@ fn read_call(buffer: &mut [u8], input: Cursor, name: Name) -> Line
     }
 }
 
-pub fn read_line(
+pub(crate) fn read_line(
     buffer: &mut [u8],
     input: Cursor,
     ends: &mut [u16],

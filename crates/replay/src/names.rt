@@ -10,6 +10,7 @@ pub enum Name {
     Presets,
     Incidence,
     EdgesAt,
+    EdgeWalk,
     TwoColor,
     LineGraph,
     GreedyNodeColor,
@@ -59,6 +60,9 @@ fn name_of(word: &[u8]) -> Name {
     if same(word, b"edges_at") {
         return Name::EdgesAt;
     }
+    if same(word, b"edge_walk") {
+        return Name::EdgeWalk;
+    }
     if same(word, b"two_color") {
         return Name::TwoColor;
     }
@@ -96,7 +100,7 @@ fn name_of(word: &[u8]) -> Name {
 }
 
 // The line's first word.
-pub fn read_name(buffer: &mut [u8], input: Cursor) -> NameRead
+pub(crate) fn read_name(buffer: &mut [u8], input: Cursor) -> NameRead
     ensures { λ r. ⌜ r .input .left ≤ input .left ⌝ }
 {
     let mut word = [0u8; 64];

@@ -8,13 +8,13 @@ use crate::lent::unchanged_bytes;
 use libc::STDOUT_FILENO;
 
 // Writes what waits.
-pub fn flush(text: &[u8], waiting: usize) {
+pub(crate) fn flush(text: &[u8], waiting: usize) {
     let end = cut_bytes(waiting, text);
     io::write_all(STDOUT_FILENO, &text[..end]);
 }
 
 // A full buffer is written first.
-pub fn put(text: &mut [u8], waiting: usize, byte: u8) -> usize
+pub(crate) fn put(text: &mut [u8], waiting: usize, byte: u8) -> usize
     ensures { λ r. ⌜ (waiting < length (now (text .entry)) → (r ≡ waiting + 1) × (now (text .exit) ≡ set (now (text .entry)) waiting byte)) ⌝ }
     ensures { λ r. ⌜ r ≤ length (now (text .exit)) ⌝ }
 {
@@ -30,7 +30,7 @@ pub fn put(text: &mut [u8], waiting: usize, byte: u8) -> usize
     1
 }
 
-pub fn put_all(text: &mut [u8], waiting: usize, bytes: &[u8]) -> usize {
+pub(crate) fn put_all(text: &mut [u8], waiting: usize, bytes: &[u8]) -> usize {
     let mut end = waiting;
     let mut i = 0;
     while i < bytes.len() {
@@ -40,7 +40,7 @@ pub fn put_all(text: &mut [u8], waiting: usize, bytes: &[u8]) -> usize {
     end
 }
 
-pub fn put_number(text: &mut [u8], waiting: usize, value: u64) -> usize {
+pub(crate) fn put_number(text: &mut [u8], waiting: usize, value: u64) -> usize {
     let mut digits = [0u8; 20];
     let count = io::decimal(value, &mut digits);
     put_all(text, waiting, &digits[..count])
@@ -71,7 +71,7 @@ fn put_byte_numbers(text: &mut [u8], waiting: usize, bytes: &[u8]) -> usize {
 }
 
 // A lent slice after its call.
-pub fn put_list(text: &mut [u8], waiting: usize, list: &[u16]) -> usize {
+pub(crate) fn put_list(text: &mut [u8], waiting: usize, list: &[u16]) -> usize {
     if unchanged(list) {
         return put_all(text, waiting, b" unchanged");
     }
@@ -79,7 +79,7 @@ pub fn put_list(text: &mut [u8], waiting: usize, list: &[u16]) -> usize {
 }
 
 // The same of bytes.
-pub fn put_bytes(text: &mut [u8], waiting: usize, bytes: &[u8]) -> usize {
+pub(crate) fn put_bytes(text: &mut [u8], waiting: usize, bytes: &[u8]) -> usize {
     if unchanged_bytes(bytes) {
         return put_all(text, waiting, b" unchanged");
     }
@@ -87,7 +87,7 @@ pub fn put_bytes(text: &mut [u8], waiting: usize, bytes: &[u8]) -> usize {
 }
 
 // A part of a slice.
-pub fn put_part(text: &mut [u8], waiting: usize, list: &[u16]) -> usize {
+pub(crate) fn put_part(text: &mut [u8], waiting: usize, list: &[u16]) -> usize {
     if list.len() == 0 {
         return put_all(text, waiting, b" empty");
     }
@@ -95,7 +95,7 @@ pub fn put_part(text: &mut [u8], waiting: usize, list: &[u16]) -> usize {
 }
 
 // The part of a line before its slices.
-pub fn put_report(text: &mut [u8], waiting: usize, name: &[u8], word: &[u8], value: u64) -> usize {
+pub(crate) fn put_report(text: &mut [u8], waiting: usize, name: &[u8], word: &[u8], value: u64) -> usize {
     let end = put_all(text, waiting, name);
     let end = put(text, end, b' ');
     let end = put_all(text, end, word);

@@ -176,6 +176,18 @@ fn incidence(graph: &Graph, starts: &mut Lent<u16>, entries: &mut Lent<u16>) -> 
     Report::Total(total)
 }
 
+/// The edges at a node from a place on, in the order of petgraph's edges(v), and the word that ends a walk. A graph that
+/// 01 refuses has no table to walk over.
+fn edge_walk(graph: &Graph, v: u16, place: usize) -> String {
+    let mut words = Vec::new();
+    if graph.refusal.is_none() && u64::from(v) < graph.n {
+        let edges = graph.petgraph.edges(NodeIndex::new(v.into()));
+        words = edges.skip(place).map(|e| e.id().index().to_string()).collect();
+    }
+    words.push("end".to_string());
+    words.join(" ")
+}
+
 fn two_color(graph: &Graph, colors: &mut Lent<u8>) -> Report {
     if let Some(number) = graph.refusal {
         return Report::Refused(number);
@@ -422,6 +434,12 @@ fn main() {
                     joined(stretch)
                 };
                 writeln!(out, "{name}: {shown}").unwrap();
+                continue;
+            }
+            "edge_walk" => {
+                let (node, place) = (words.number(), words.number());
+                words.end();
+                writeln!(out, "{name}: {}", edge_walk(&graph, node, place)).unwrap();
                 continue;
             }
             "two_color" => {

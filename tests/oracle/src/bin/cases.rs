@@ -116,6 +116,24 @@ impl Block {
         }
     }
 
+    fn edge_walk(&mut self, v: u16, place: usize) {
+        self.call(Family::Incidence, false, format!("edge_walk {v} {place}"));
+    }
+
+    /// Walks over these nodes' edges: all of them, all but the first, and from the places at and beyond the end.
+    fn edge_walks(&mut self, nodes: &[u16]) {
+        let edges = self.edges();
+        for &v in nodes {
+            let count = edges.get(usize::from(v)).map_or(0, Vec::len);
+            let mut places = vec![0, 1, count, count + 1, usize::MAX];
+            places.sort_unstable();
+            places.dedup();
+            for place in places {
+                self.edge_walk(v, place);
+            }
+        }
+    }
+
     fn two_color(&mut self, colors: usize) {
         self.call(Family::TwoColor, false, format!("two_color {colors}"));
     }
@@ -453,6 +471,7 @@ fn limits(random: &mut Random, blocks: &mut Vec<Block>) {
     b.every_call();
     b.wrong_lengths();
     b.edges_at_own(&[300]);
+    b.edge_walks(&[300]);
     b.some_presets(random);
     blocks.push(b);
     let any: Edges = (0..4096)
@@ -491,6 +510,7 @@ fn orders(blocks: &mut Vec<Block>) {
     for &(n, ends) in list {
         let mut b = Block::new(n, ends);
         b.every_call_refused((n % 1000) as usize, ends.len() / 2);
+        b.edge_walk(0, 0);
         b.every_call_refused(7, 3);
         b.line_graph(0);
         blocks.push(b);
@@ -549,6 +569,7 @@ fn shapes(random: &mut Random, blocks: &mut Vec<Block>) {
         b.wrong_lengths();
         let nodes: Vec<u16> = (0..n + 2).chain([65535]).collect();
         b.edges_at_own(&nodes);
+        b.edge_walks(&nodes);
         b.some_presets(random);
         blocks.push(b);
     }
@@ -834,7 +855,10 @@ fn random_graphs(blocks: &mut Vec<Block>) {
         let edges = mixed(random, &edges);
         let mut b = Block::of(n, &edges);
         b.every_call();
-        b.edges_at_own(&[random.node(nodes + 1), random.node(nodes)]);
+        let asked = [random.node(nodes + 1), random.node(nodes)];
+        b.edges_at_own(&asked);
+        b.edge_walk(asked[0], 0);
+        b.edge_walk(asked[1], 0);
         if i % 10 == 9 {
             b.wrong_lengths();
         }
