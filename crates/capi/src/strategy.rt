@@ -11,7 +11,7 @@ pub enum StrategyNumber {
     Unknown,
 }
 
-pub fn strategy_of(number: u8) -> StrategyNumber
+pub(crate) fn strategy_of(number: u8) -> StrategyNumber
     ensures { λ r. ⌜ strategyNamed r ≡ strategyOf number ⌝ }
 {
     match number {
@@ -23,7 +23,7 @@ pub fn strategy_of(number: u8) -> StrategyNumber
 }
 
 // The answer where no strategy has the number: that of the checks comes first.
-pub fn unknown_strategy(checked: Checked) -> u32
+pub(crate) fn unknown_strategy(checked: Checked) -> u32
     ensures { λ r. ⌜ r ≡ codeOfUnknown (reportOfChecked checked) ⌝ }
 {
     match checked {
