@@ -219,7 +219,7 @@ module _ (nb : ℕ → List ℕ) (n : ℕ) (hood : Neighborhood nb n) (presets :
       let s = putOffPresets nb presets r n (record { listed = listed; next = [] }) in
       rounds-end more (suc r) (round nb n presets r listed colors .next) (round nb n presets r listed colors .colors) (omega arith) (turns-end r (length (s .listed)) s colors (omega arith) (omega arith) (round-begins r listed colors (omega arith) b))
 
-  -- "Each round colours an item or uses up a preset": after n rounds, an item without a colour would have neighbours of n colours, and with it there would be more than n items.
+  -- Each round colours an item or uses up a preset: after n rounds, an item without a colour would have neighbours of n colours, and with it there would be more than n items.
   all-colored : (left colors : List ℕ) → Between nb n presets n left colors → (v : ℕ) → v < n → colorOf colors v ≢ noColor
   unfolding colorOf
   all-colored left colors b v h none =

@@ -18,7 +18,8 @@ pub enum LineList {
     Refused(Refusal),
 }
 
-// The node of the line graph that an edge becomes. This function and the next alone turn one kind of number into the other.
+// The node of the line graph that an edge becomes. A `NodeIndex` is made of an `EdgeIndex` by this function alone, and the other way by the
+// next; slices hold plain numbers.
 pub fn node_of_edge(edge: EdgeIndex) -> NodeIndex
     ensures { λ r. ⌜ r .0 ≡ edge .0 ⌝ }
 {

@@ -39,7 +39,7 @@ fn lent_places(ends: usize) -> usize
 }
 
 // The text of a graph: as much of it as there is room for, and its whole length.
-pub fn graph_text(n: usize, ends: &[u16], text: &mut [u8]) -> usize
+fn graph_text(n: usize, ends: &[u16], text: &mut [u8]) -> usize
     ensures { λ r. ⌜ r ≡ length (coloredText n (now (ends .entry))) ⌝ }
     ensures { λ _. ⌜ now (text .exit) ≡ copiedOver (coloredText n (now (ends .entry))) (now (text .entry)) ⌝ }
 {

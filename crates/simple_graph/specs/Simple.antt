@@ -14,7 +14,7 @@ use Rattle.graph.specs.declared.Checked.{Checked}
 use Rattle.graph.specs.declared.Checked.the-variants as C
 use Rattle.vizing.specs.MisraGries.{hasLoop, hasDoubleEdge, simpleChecks}
 
--- "graph checks, .. 6 if a loop exists, 7 if a double edge exists": they report n and m.
+-- The graph checks, then "6 if a loop exists, 7 if a double edge exists": they report n and m.
 unfoldable pub checkSimple : ℕ → List ℕ → Report (ℕ × ℕ)
 checkSimple n ends = answered (graphChecks n ends ++ simpleChecks ends) (n, edgeCount ends)
 

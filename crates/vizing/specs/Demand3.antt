@@ -71,7 +71,7 @@ Call = ℕ → List ℕ → List ℕ → Outcome
 abbrev pub Run : Type 0
 Run = ℕ → List ℕ → ℕ → List ℕ
 
--- "The first k edges alone are a call of their own with the same n, the first 2k ends and k colour places."
+-- "The first k edges alone are a call of their own with the same n, the first 2k ends and k colour places"
 pub record FirstEdgesAlone (call : Call) (held : Run) (n : ℕ) (ends : List ℕ) (k : ℕ) : Type 0 where
   pub accepts : (places : List ℕ) → length places ≡ k → Accepted (call n (take (2 * k) ends) places .report)
   -- "its answer equals, place by place, places 0 to k - 1 of what the whole run holds after its kth edge"

@@ -35,7 +35,7 @@ store l (k ∷ ks) (c ∷ cs) = store (set l k c) ks cs
 
 -- ---- step 1: the fan
 
--- Candidate k "isn't in the fan yet, is coloured, and [its] colour is free at the far end of the fan's last edge", whose edges are ks.
+-- Candidate k "isn't in the fan yet, is coloured", and its "colour is free at the far end of the fan's last edge", whose edges are ks.
 unfoldable pub joins : List ℕ → List ℕ → List ℕ → ℕ → Bool
 joins l ks fan k = not (elem k fan) && (isColored l k && isFree l ks (colorOf l k))
 
@@ -45,7 +45,7 @@ firstJoining l ks fan [] = none
 firstJoining l ks fan (k ∷ candidates) = elim (joins l ks fan k) [ true ↦ some k | false ↦ firstJoining l ks fan candidates ]
 
 module _ (ends : List ℕ) (m : ℕ) where
-  -- "Repeatedly the first candidate that .. joins the fan, until none does": what joins at u after the edges of `fan`, whose last edge has far end x.
+  -- "Repeatedly the first candidate that" may "joins the fan, until none does": what joins at u after the edges of `fan`, whose last edge has far end x.
   -- "Candidates are u's other edges in incidence order." Each joins once, so 4,096 turns are enough.
   unfoldable pub growFan : ℕ → List ℕ → ℕ → List ℕ → ℕ → List ℕ
   growFan zero l u fan x = []
@@ -63,7 +63,7 @@ lastFarEnd ends u x (k ∷ ks) = lastFarEnd ends u (farEnd ends k u) ks
 -- ---- step 3: the path and the exchange
 
 module _ (ends : List ℕ) (m : ℕ) where
-  -- "The path .. follows colours d, c, d, and so on as far as it goes": from v along p, q, p. No node comes twice, so n turns are enough.
+  -- "The path from u follows colours d, c, d, and so on as far as it goes": from v along p, q, p. No node comes twice, so n turns are enough.
   unfoldable pub path : ℕ → List ℕ → ℕ → ℕ → ℕ → List ℕ
   path zero l v p q = []
   path (suc fuel) l v p q = elim (edgeOfColor l p (edgesAt ends m v)) [ none ↦ [] | some k ↦ k ∷ path fuel l (farEnd ends k v) q p ]
