@@ -89,6 +89,7 @@ days-raised c cs n h = days-colored c cs n ∙ simp (le-ltb c (daysOf cs) h)
 
 days-kept : (c : ℕ) (cs : List ℕ) → c < daysOf cs → daysOf (c ∷ cs) ≡ daysOf cs
 days-kept c cs h = elim (dec-eq c noColor) [ inl e ↦ days-uncolored c cs e | inr n ↦ days-colored c cs n ∙ simp (lt-ltb c (daysOf cs) h) ]
+
 days-grow : (c : ℕ) (cs : List ℕ) → daysOf cs ≤ daysOf (c ∷ cs)
 days-grow c cs = elim (dec-eq c noColor) [
   | inl e ↦ omega (arith, days-uncolored c cs e)
