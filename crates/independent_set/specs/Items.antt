@@ -9,9 +9,7 @@ use Rattle.graph.specs.CheckLaws.{Passed}
 use Rattle.graph.specs.Edges.{edgeCount, neighbors}
 use Rattle.graph.specs.StretchLaws.{Table}
 use Rattle.greedy.specs.Call.{edgeNeighbors}
-use Rattle.greedy.specs.IndependentSet.{Lists, putOffAll}
 use Rattle.independent_set.specs.declared.items.Items.{Items}
-use Rattle.independent_set.specs.Listing.{Held}
 
 -- The neighbours of each item, in incidence order.
 unfoldable pub neighborsOf : Items → List ℕ → ℕ → List ℕ
@@ -31,22 +29,21 @@ pub items-few : (items : Items) (ends : List ℕ) → Passed (items .nodes) ends
 unfolding countOf
 items-few items ends p e = by-test (items .edges) (λ t. omega (arith, rw t at e, p .edges)) (λ t. omega (arith, rw t at e, p .nodes))
 
--- ---- by kind: what a walk over the neighbours leaves
+-- ---- by kind
 
-module _ (items : Items) (ends starts entries : List ℕ) (known : Tabled items ends starts entries) (s : Lists) (listed place next listed′ place′ next′ : List ℕ) (len end len′ end′ v : ℕ)
-    (held : Held (items .count) listed place next len end s) (less : v < items .count) where
-  pub edges-left : items .edges ≡ true → (k : ℕ) → k ≡ v
-      → ((n : ℕ) → Passed n ends → Table ends n starts entries → k < edgeCount ends → Held (edgeCount ends) listed place next len end s → Held (edgeCount ends) listed′ place′ next′ len′ end′ (putOffAll s (edgeNeighbors n ends k)))
-      → Held (items .count) listed′ place′ next′ len′ end′ (putOffAll s (neighborsOf items ends v))
-  unfolding neighborsOf countOf
-  edges-left e k same walk =
-      let all : items .count ≡ edgeCount ends = rw e at (known .all) in
-      rw (all, e, ← same) (walk (items .nodes) (known .passed) (known .table) (omega (arith, rw all at less)) (rw all at held))
+module _ (items : Items) (ends starts entries : List ℕ) (known : Tabled items ends starts entries) where
+  pub nodes-count : items .edges ≡ false → items .count ≡ items .nodes
+  unfolding countOf
+  nodes-count e = rw e at (known .all)
 
-  pub nodes-left : items .edges ≡ false
-      → ((n : ℕ) → Passed n ends → Table ends n starts entries → v < n → Held n listed place next len end s → Held n listed′ place′ next′ len′ end′ (putOffAll s (neighbors ends (edgeCount ends) v)))
-      → Held (items .count) listed′ place′ next′ len′ end′ (putOffAll s (neighborsOf items ends v))
-  unfolding neighborsOf countOf
-  nodes-left e walk =
-      let all : items .count ≡ items .nodes = rw e at (known .all) in
-      rw (all, e) (walk (items .nodes) (known .passed) (known .table) (rw all at less) (rw all at held))
+  pub edges-count : items .edges ≡ true → items .count ≡ edgeCount ends
+  unfolding countOf
+  edges-count e = rw e at (known .all)
+
+pub nodes-neighbors : (items : Items) (ends : List ℕ) (v : ℕ) → items .edges ≡ false → neighborsOf items ends v ≡ neighbors ends (edgeCount ends) v
+unfolding neighborsOf
+nodes-neighbors items ends v e = rw e
+
+pub edges-neighbors : (items : Items) (ends : List ℕ) (k : ℕ) → items .edges ≡ true → neighborsOf items ends k ≡ edgeNeighbors (items .nodes) ends k
+unfolding neighborsOf
+edges-neighbors items ends k e = rw e

@@ -34,13 +34,6 @@ pub record Held (n : ℕ) (listed place next : List ℕ) (len end : ℕ) (s : Li
   pub apart : (i j : ℕ) → i < len → j < end → getD listed i 0 ≢ getD next j 0
   pub total : len + end ≤ n
 
--- What is seen of held lists without a look into them: the arrays have their length, and the next list has room for every listed item.
-pub record Sized (listed place next : List ℕ) (len end : ℕ) : Type 0 where
-  pub first : length listed ≡ 4096
-  pub places : length place ≡ 4096
-  pub second : length next ≡ 4096
-  pub total : len + end ≤ 4096
-
 -- What two arrays hold.
 abbrev pub listsAt : List ℕ → List ℕ → ℕ → ℕ → Lists
 listsAt listed next len end = record { listed = take len listed; next = take end next }

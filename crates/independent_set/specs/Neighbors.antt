@@ -12,18 +12,18 @@ use lib.Dec.{eqb, ltb}
 use borrow.Author.Tests.{eq-eqb, ne-eqb, eqb-true}
 use Rattle.lists.specs.Tests.{by-test}
 use Rattle.lists.specs.Member.{Mem, mem-map, mem-getD}
-use Rattle.graph.specs.CheckLaws.{Passed, passed-inside}
+use Rattle.graph.specs.CheckLaws.{passed-inside}
 use Rattle.graph.specs.Edges.{edgeCount, farEnd, firstEnd, secondEnd, isLoop, edgesAt, neighbors}
 use Rattle.graph.specs.EdgeLaws.{edge-at, edges-at-nodup}
 use Rattle.graph.specs.NeighborLaws.{neighbors-far-ends, passed-neighbor}
 use Rattle.graph.specs.Stretch.{stretch}
-use Rattle.graph.specs.StretchLaws.{Table}
 use Rattle.line_graph.specs.LineNeighbors.{laterAt, earlierAt, higherEnd, lowerEnd, lineNeighbors}
 use Rattle.line_graph.specs.LineNeighborLaws.{loop-neighbors, apart-neighbors}
 use Rattle.line_graph.specs.PairLaws.{before-member, after-member}
-use Rattle.greedy.specs.Call.{edgeNeighbors}
 use Rattle.greedy.specs.GreedyLaws.{edge-neighbors}
 use Rattle.greedy.specs.IndependentSet.{Lists, putOff, putOffAll}
+use Rattle.independent_set.specs.declared.items.Items.{Items}
+use Rattle.independent_set.specs.Items.{neighborsOf, Tabled, nodes-count, nodes-neighbors, edges-count, edges-neighbors}
 use Rattle.independent_set.specs.Listing.{Held, listsAt, lists-held}
 use Rattle.independent_set.specs.Edges.{partIn, put-off-append}
 
@@ -39,18 +39,19 @@ pub neighbors-none : (n : ℕ) (listed place next : List ℕ) (len end : ℕ) (s
 unfolding putOffAll
 neighbors-none n listed place next len end s h = h
 
-module _ (n : ℕ) (ends starts entries edges : List ℕ) (v : ℕ) (passed : Passed n ends) (table : Table ends n starts entries) (less : v < n) (e : edges ≡ stretch starts entries v) where
+module _ (items : Items) (ends starts entries edges : List ℕ) (v : ℕ) (kind : items .edges ≡ false) (known : Tabled items ends starts entries) (less : v < items .count) (e : edges ≡ stretch starts entries v) where
   edges-same : edges ≡ edgesAt ends (edgeCount ends) v
-  edges-same = e ∙ table .row v less
+  edges-same = e ∙ known .table .row v (omega (arith, nodes-count items ends starts entries known kind))
 
-  pub neighbor-below : (i far : ℕ) → i < length edges → far ≡ farEnd ends (getD edges i 0) v → far < n
+  pub neighbor-below : (i far : ℕ) → i < length edges → far ≡ farEnd ends (getD edges i 0) v → far < items .count
   neighbor-below i far h p =
-      passed-neighbor n ends passed v far
-      (rw (p, neighbors-far-ends ends (edgeCount ends) v, ← edges-same) (mem-map (λ (j : ℕ). farEnd ends j v) (getD edges i 0) edges (mem-getD edges i 0 h)))
+      rw (nodes-count items ends starts entries known kind)
+      (passed-neighbor (items .nodes) ends (known .passed) v far
+      (rw (p, neighbors-far-ends ends (edgeCount ends) v, ← edges-same) (mem-map (λ (j : ℕ). farEnd ends j v) (getD edges i 0) edges (mem-getD edges i 0 h))))
 
-  pub neighbors-done : (i : ℕ) (listed place next : List ℕ) (len end : ℕ) (s : Lists) → length edges ≤ i → Held n listed place next len end (putOffAll s (map (λ (j : ℕ). farEnd ends j v) (take i edges)))
-      → Held n listed place next len end (putOffAll s (neighbors ends (edgeCount ends) v))
-  neighbors-done i listed place next len end s b h = rw (neighbors-far-ends ends (edgeCount ends) v, ← edges-same) (rw (take-all i edges b) at h)
+  pub neighbors-done : (i : ℕ) (listed place next : List ℕ) (len end : ℕ) (s : Lists) → length edges ≤ i → Held (items .count) listed place next len end (putOffAll s (map (λ (j : ℕ). farEnd ends j v) (take i edges)))
+      → Held (items .count) listed place next len end (putOffAll s (neighborsOf items ends v))
+  neighbors-done i listed place next len end s b h = rw (nodes-neighbors items ends v kind, neighbors-far-ends ends (edgeCount ends) v, ← edges-same) (rw (take-all i edges b) at h)
 
 pub neighbors-more : (n : ℕ) (ends edges : List ℕ) (v i far : ℕ) (s : Lists) (listed place next : List ℕ) (len end : ℕ) (listed′ place′ next′ : List ℕ) (len′ end′ : ℕ)
     → Held n listed place next len end (putOffAll s (map (λ (j : ℕ). farEnd ends j v) (take i edges))) → i < length edges → far ≡ farEnd ends (getD edges i 0) v
@@ -108,22 +109,25 @@ part-member true ends k v j p = edge-at ends (edgeCount ends) v j (after-member 
 part-member false ends k v j p = edge-at ends (edgeCount ends) v j (before-member k j (edgesAt ends (edgeCount ends) v) p .0) .0
 
 -- Over a table the edges at a node are those of the graph.
-module _ (n : ℕ) (ends starts entries : List ℕ) (k : ℕ) (passed : Passed n ends) (table : Table ends n starts entries) (less : k < edgeCount ends) where
+module _ (items : Items) (ends starts entries : List ℕ) (k : ℕ) (kind : items .edges ≡ true) (known : Tabled items ends starts entries) (few : k < items .count) where
+  less : k < edgeCount ends
+  less = omega (arith, edges-count items ends starts entries known kind)
+
   row-higher : stretch starts entries (higherEnd ends k) ≡ edgesAt ends (edgeCount ends) (higherEnd ends k)
-  row-higher = table .row (higherEnd ends k) (ends-cases (λ (x y : ℕ). x < n) ends k (passed-inside n ends passed k less .1) (passed-inside n ends passed k less .0))
+  row-higher = known .table .row (higherEnd ends k) (ends-cases (λ (x y : ℕ). x < items .nodes) ends k (passed-inside (items .nodes) ends (known .passed) k less .1) (passed-inside (items .nodes) ends (known .passed) k less .0))
 
   row-lower : stretch starts entries (lowerEnd ends k) ≡ edgesAt ends (edgeCount ends) (lowerEnd ends k)
-  row-lower = table .row (lowerEnd ends k) (ends-cases (λ (x y : ℕ). y < n) ends k (passed-inside n ends passed k less .0) (passed-inside n ends passed k less .1))
+  row-lower = known .table .row (lowerEnd ends k) (ends-cases (λ (x y : ℕ). y < items .nodes) ends k (passed-inside (items .nodes) ends (known .passed) k less .0) (passed-inside (items .nodes) ends (known .passed) k less .1))
 
-  pub part-below : (turn : ℕ) (part : List ℕ) → part ≡ partAt (stretch starts entries) ends k turn → (j : ℕ) → Mem j part → j < edgeCount ends
+  pub part-below : (turn : ℕ) (part : List ℕ) → part ≡ partAt (stretch starts entries) ends k turn → (j : ℕ) → Mem j part → j < items .count
   unfolding partAt
   part-below turn part e j m =
       let p : Mem j (partAt (stretch starts entries) ends k turn) = subst (Mem j) e m in
-      by-test (eqb (turn % 2) 0)
+      rw (edges-count items ends starts entries known kind) (by-test (eqb (turn % 2) 0)
       (λ t. part-member (ltb turn 2) ends k (higherEnd ends k) j (rw (t, row-higher) at p))
       (λ t. by-test (isLoop ends k)
       (λ u. absurd (rw (t, u) at p))
-      (λ u. part-member (ltb turn 2) ends k (lowerEnd ends k) j (rw (t, u, row-lower) at p)))
+      (λ u. part-member (ltb turn 2) ends k (lowerEnd ends k) j (rw (t, u, row-lower) at p))))
 
   parts-line : partsTo (stretch starts entries) ends k 4 ≡ lineNeighbors ends (edgeCount ends) k
   unfolding partsTo partAt partIn laterAt earlierAt
@@ -131,8 +135,8 @@ module _ (n : ℕ) (ends starts entries : List ℕ) (k : ℕ) (passed : Passed n
       (λ t. rw (t, loop-higher ends k t) (simp append-nil (sym (loop-neighbors ends (edgeCount ends) k t))))
       (λ t. rw t (simp append-assoc (simp append-assoc at (sym (apart-neighbors ends (edgeCount ends) k t))))))
 
-  pub parts-all : partsTo (stretch starts entries) ends k 4 ≡ edgeNeighbors n ends k
-  parts-all = parts-line ∙ sym (edge-neighbors n ends passed k less)
+  pub parts-all : partsTo (stretch starts entries) ends k 4 ≡ neighborsOf items ends k
+  parts-all = parts-line ∙ (sym (edge-neighbors (items .nodes) ends (known .passed) k less) ∙ sym (edges-neighbors items ends k kind))
 
 -- ---- putting off part by part
 

@@ -1,19 +1,18 @@
 // The neighbours of an edge, told from the edges at its ends: those after it at the higher end, last first, then at the lower, then
 // those before it, the same way. A loop has one end only.
+ghost use mathlib.Core.Bool.{true};
 ghost use mathlib.Core.Path.{_≡_};
 ghost use mathlib.Core.List.{reverse};
 ghost use Prim.Native.Nat.{ℕ, _<_};
 ghost use Rattle.lists.specs.Member.{Mem};
-ghost use Rattle.graph.specs.CheckLaws.{Passed};
-ghost use Rattle.graph.specs.Edges.{edgeCount};
 ghost use Rattle.graph.specs.Stretch.{stretch};
-ghost use Rattle.graph.specs.StretchLaws.{Table};
 ghost use Rattle.line_graph.specs.LineNeighbors.{higherEnd, lowerEnd};
-ghost use Rattle.greedy.specs.Call.{edgeNeighbors};
 ghost use Rattle.greedy.specs.IndependentSet.{placeOf, putOffAll};
-ghost use Rattle.independent_set.specs.Listing.{Sized, Held, listsAt};
+ghost use Rattle.independent_set.specs.Items.{neighborsOf, Tabled};
+ghost use Rattle.independent_set.specs.Listing.{Held, listsAt};
 ghost use Rattle.independent_set.specs.Edges.{partIn};
 ghost use Rattle.independent_set.specs.Neighbors.{partAt};
+use crate::items::Items;
 use crate::list::Counts;
 use crate::list::put_off;
 use graph::EdgeIndex;
@@ -50,26 +49,25 @@ fn part_of<'a>(edges: &'a [u16], edge: EdgeIndex, later: bool) -> &'a [u16]
     &edges[..at]
 }
 
-// The listed ones of these edges are put off, last first.
+// The listed ones of these edges, of `count`, are put off, last first.
 fn put_off_part(
+    count: usize,
     edges: &[u16],
     listed: &mut [u16],
     place: &mut [u16],
     next: &mut [u16],
     counts: Counts,
 ) -> Counts
-    requires { ⌜ Sized (now listed) (now place) (now next) (counts .listed) (counts .next) ⌝ }
-    ensures { λ r. ⌜ Sized (now (listed .exit)) (now (place .exit)) (now (next .exit)) (r .listed) (r .next) ⌝ }
-    ensures { λ r. ⌜ ((n : ℕ) → Held n (now (listed .entry)) (now (place .entry)) (now (next .entry)) (counts .listed) (counts .next) (listsAt (now (listed .entry)) (now (next .entry)) (counts .listed) (counts .next))
-        → ((j : ℕ) → Mem j (now (edges .entry)) → j < n)
-        → Held n (now (listed .exit)) (now (place .exit)) (now (next .exit)) (r .listed) (r .next) (putOffAll (listsAt (now (listed .entry)) (now (next .entry)) (counts .listed) (counts .next)) (reverse (now (edges .entry))))) ⌝ }
+    requires { ⌜ ((j : ℕ) → Mem j (now edges) → j < count) ⌝ }
+    requires { ⌜ Held count (now listed) (now place) (now next) (counts .listed) (counts .next) (listsAt (now listed) (now next) (counts .listed) (counts .next)) ⌝ }
+    ensures { λ r. ⌜ Held count (now (listed .exit)) (now (place .exit)) (now (next .exit)) (r .listed) (r .next) (putOffAll (listsAt (now (listed .entry)) (now (next .entry)) (counts .listed) (counts .next)) (reverse (now (edges .entry)))) ⌝ }
 {
     let mut reached = counts;
     let mut i = edges.len();
     while 0 < i {
         i -= 1;
         let item = node_of_edge(EdgeIndex(edges[i]));
-        reached = put_off(listed, place, next, reached, item);
+        reached = put_off(count, listed, place, next, reached, item);
     }
     reached
 }
@@ -121,6 +119,7 @@ fn part_at<'a>(
 
 // The listed edges that share an end with an edge are put off, in the order of the line list.
 pub(crate) fn put_off_sharing(
+    items: Items,
     ends: &[u16],
     starts: &[u16],
     entries: &[u16],
@@ -130,17 +129,16 @@ pub(crate) fn put_off_sharing(
     counts: Counts,
     edge: EdgeIndex,
 ) -> Counts
-    requires { ⌜ Sized (now listed) (now place) (now next) (counts .listed) (counts .next) ⌝ }
-    ensures { λ r. ⌜ ((n : ℕ) → Passed n (now (ends .entry)) → Table (now (ends .entry)) n (now (starts .entry)) (now (entries .entry)) → edge .0 < edgeCount (now (ends .entry))
-        → Held (edgeCount (now (ends .entry))) (now (listed .entry)) (now (place .entry)) (now (next .entry)) (counts .listed) (counts .next) (listsAt (now (listed .entry)) (now (next .entry)) (counts .listed) (counts .next))
-        → Held (edgeCount (now (ends .entry))) (now (listed .exit)) (now (place .exit)) (now (next .exit)) (r .listed) (r .next)
-        (putOffAll (listsAt (now (listed .entry)) (now (next .entry)) (counts .listed) (counts .next)) (edgeNeighbors n (now (ends .entry)) (edge .0)))) ⌝ }
+    requires { ⌜ (items .edges ≡ true) × Tabled items (now ends) (now starts) (now entries) × (edge .0 < items .count) ⌝ }
+    requires { ⌜ Held (items .count) (now listed) (now place) (now next) (counts .listed) (counts .next) (listsAt (now listed) (now next) (counts .listed) (counts .next)) ⌝ }
+    ensures { λ r. ⌜ Held (items .count) (now (listed .exit)) (now (place .exit)) (now (next .exit)) (r .listed) (r .next)
+        (putOffAll (listsAt (now (listed .entry)) (now (next .entry)) (counts .listed) (counts .next)) (neighborsOf items (now (ends .entry)) (edge .0))) ⌝ }
 {
     let mut reached = counts;
     let mut turn = 0;
     while turn < 4 {
         let part = part_at(ends, starts, entries, edge, turn);
-        reached = put_off_part(part, listed, place, next, reached);
+        reached = put_off_part(items.count, part, listed, place, next, reached);
         turn += 1;
     }
     reached

@@ -2,11 +2,11 @@
 // item is listed if its place is below the length and the item stands there. An item is a node of the graph that is coloured: the graph
 // itself, or its line graph.
 ghost use mathlib.Core.Path.{_≡_};
-ghost use Prim.Native.Nat.{ℕ, _-_, _≤_, _<_};
+ghost use Prim.Native.Nat.{_-_, _≤_, _<_};
 ghost use lib.ListN.{length, getD, set};
 ghost use Rattle.greedy.specs.Turn.{uncolored};
 ghost use Rattle.greedy.specs.IndependentSet.{putOff};
-ghost use Rattle.independent_set.specs.Listing.{Listing, Sized, Held, listsAt};
+ghost use Rattle.independent_set.specs.Listing.{Listing, Held, listsAt};
 use graph::Color;
 use graph::NodeIndex;
 
@@ -47,26 +47,22 @@ pub(crate) fn take_out(listed: &mut [u16], place: &mut [u16], len: usize, item: 
     place[last as usize] = hole;
 }
 
-// A listed item is taken out and goes to the end of the next list. That a number is below 4,096 is tested, not asked: the walks do not
-// look whether the numbers that they meet are.
+// A listed item, one of `count`, is taken out and goes to the end of the next list.
 pub(crate) fn put_off(
+    count: usize,
     listed: &mut [u16],
     place: &mut [u16],
     next: &mut [u16],
     counts: Counts,
     item: NodeIndex,
 ) -> Counts
-    requires { ⌜ Sized (now listed) (now place) (now next) (counts .listed) (counts .next) ⌝ }
-    ensures { λ r. ⌜ Sized (now (listed .exit)) (now (place .exit)) (now (next .exit)) (r .listed) (r .next) ⌝ }
-    ensures { λ r. ⌜ ((n : ℕ) → Held n (now (listed .entry)) (now (place .entry)) (now (next .entry)) (counts .listed) (counts .next) (listsAt (now (listed .entry)) (now (next .entry)) (counts .listed) (counts .next)) → item .0 < n
-        → Held n (now (listed .exit)) (now (place .exit)) (now (next .exit)) (r .listed) (r .next) (putOff (listsAt (now (listed .entry)) (now (next .entry)) (counts .listed) (counts .next)) (item .0))) ⌝ }
+    requires { ⌜ Held count (now listed) (now place) (now next) (counts .listed) (counts .next) (listsAt (now listed) (now next) (counts .listed) (counts .next)) ⌝ }
+    requires { ⌜ item .0 < count ⌝ }
+    ensures { λ r. ⌜ Held count (now (listed .exit)) (now (place .exit)) (now (next .exit)) (r .listed) (r .next) (putOff (listsAt (now (listed .entry)) (now (next .entry)) (counts .listed) (counts .next)) (item .0)) ⌝ }
 {
     let len = counts.listed;
     let end = counts.next;
     let v = item.0 as usize;
-    if 4096 <= v {
-        return counts;
-    }
     let hole = place[v];
     let here = hole as usize;
     if len <= here {
@@ -76,12 +72,8 @@ pub(crate) fn put_off(
         return counts;
     }
     let last = listed[len - 1];
-    let moved = last as usize;
-    if 4096 <= moved {
-        return counts;
-    }
     listed[here] = last;
-    place[moved] = hole;
+    place[last as usize] = hole;
     next[end] = item.0;
     place[v] = end as u16;
     Counts {

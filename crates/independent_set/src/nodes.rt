@@ -1,10 +1,11 @@
 // The neighbours of a node: the far ends of its edges, in incidence order.
-ghost use Prim.Native.Nat.{ℕ, _<_};
-ghost use Rattle.graph.specs.CheckLaws.{Passed};
-ghost use Rattle.graph.specs.Edges.{edgeCount, neighbors};
-ghost use Rattle.graph.specs.StretchLaws.{Table};
+ghost use mathlib.Core.Bool.{false};
+ghost use mathlib.Core.Path.{_≡_};
+ghost use Prim.Native.Nat.{_<_};
 ghost use Rattle.greedy.specs.IndependentSet.{putOffAll};
-ghost use Rattle.independent_set.specs.Listing.{Sized, Held, listsAt};
+ghost use Rattle.independent_set.specs.Items.{neighborsOf, Tabled};
+ghost use Rattle.independent_set.specs.Listing.{Held, listsAt};
+use crate::items::Items;
 use crate::list::Counts;
 use crate::list::put_off;
 use graph::EdgeIndex;
@@ -14,6 +15,7 @@ use graph::far_end;
 
 // The listed neighbours of a node are put off, in incidence order.
 pub(crate) fn put_off_far_ends(
+    items: Items,
     ends: &[u16],
     starts: &[u16],
     entries: &[u16],
@@ -23,18 +25,17 @@ pub(crate) fn put_off_far_ends(
     counts: Counts,
     node: NodeIndex,
 ) -> Counts
-    requires { ⌜ Sized (now listed) (now place) (now next) (counts .listed) (counts .next) ⌝ }
-    ensures { λ r. ⌜ ((n : ℕ) → Passed n (now (ends .entry)) → Table (now (ends .entry)) n (now (starts .entry)) (now (entries .entry)) → node .0 < n
-        → Held n (now (listed .entry)) (now (place .entry)) (now (next .entry)) (counts .listed) (counts .next) (listsAt (now (listed .entry)) (now (next .entry)) (counts .listed) (counts .next))
-        → Held n (now (listed .exit)) (now (place .exit)) (now (next .exit)) (r .listed) (r .next)
-        (putOffAll (listsAt (now (listed .entry)) (now (next .entry)) (counts .listed) (counts .next)) (neighbors (now (ends .entry)) (edgeCount (now (ends .entry))) (node .0)))) ⌝ }
+    requires { ⌜ (items .edges ≡ false) × Tabled items (now ends) (now starts) (now entries) × (node .0 < items .count) ⌝ }
+    requires { ⌜ Held (items .count) (now listed) (now place) (now next) (counts .listed) (counts .next) (listsAt (now listed) (now next) (counts .listed) (counts .next)) ⌝ }
+    ensures { λ r. ⌜ Held (items .count) (now (listed .exit)) (now (place .exit)) (now (next .exit)) (r .listed) (r .next)
+        (putOffAll (listsAt (now (listed .entry)) (now (next .entry)) (counts .listed) (counts .next)) (neighborsOf items (now (ends .entry)) (node .0))) ⌝ }
 {
     let mut reached = counts;
     let edges = edges_at(starts, entries, node);
     let mut i = 0;
     while i < edges.len() {
         let far = far_end(ends, EdgeIndex(edges[i]), node);
-        reached = put_off(listed, place, next, reached, far);
+        reached = put_off(items.count, listed, place, next, reached, far);
         i += 1;
     }
     reached

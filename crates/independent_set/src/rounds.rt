@@ -36,9 +36,29 @@ fn put_off_neighbors(
 {
     if items.edges {
         let edge = edge_of_node(item);
-        return put_off_sharing(ends, starts, entries, listed, place, next, counts, edge);
+        return put_off_sharing(
+            items,
+            ends,
+            starts,
+            entries,
+            listed,
+            place,
+            next,
+            counts,
+            edge,
+        );
     }
-    put_off_far_ends(ends, starts, entries, listed, place, next, counts, item)
+    put_off_far_ends(
+        items,
+        ends,
+        starts,
+        entries,
+        listed,
+        place,
+        next,
+        counts,
+        item,
+    )
 }
 
 // The listed neighbours of the presets of a colour are put off.

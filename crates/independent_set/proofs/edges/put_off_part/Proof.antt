@@ -1,45 +1,43 @@
 -- `put_off_part` meets its contract. The invariant: the edges passed, from the back, are put off.
-use Prim.Native.Nat.{ℕ, _-_, _≤_, _<_}
+use Prim.Native.Nat.{ℕ, _-_, _≤_}
 use mathlib.Core.List.{reverse}
 use native.Mathlib.Omega.{arith}
 use lib.ListN.{length, drop}
 use borrow.Author.Needs.{needs}
-use Rattle.lists.specs.Member.{Mem, mem-getD}
+use Rattle.lists.specs.Member.{mem-getD}
 use Rattle.greedy.specs.IndependentSet.{putOffAll}
-use Rattle.independent_set.specs.Listing.{Sized, Held, listsAt, held-at}
+use Rattle.independent_set.specs.Listing.{Held, listsAt, held-at}
 use Rattle.independent_set.specs.Edges.{part-start, part-done, part-more}
 use Rattle.independent_set.proofs.edges.put_off_part.Statement.{statement}
 use Rattle.independent_set.proofs.edges.put_off_part.Tie as tie
 
 abbrev Inv-loop : tie.InvT-loop
-Inv-loop edges listed₀ place₀ next₀ reached₀ i₀ listed place next reached i =
-    (i ≤ length edges) × Sized listed place next (reached .listed) (reached .next)
-    × ((n : ℕ) → Held n listed₀ place₀ next₀ (reached₀ .listed) (reached₀ .next) (listsAt listed₀ next₀ (reached₀ .listed) (reached₀ .next)) → ((j : ℕ) → Mem j edges → j < n)
-    → Held n listed place next (reached .listed) (reached .next) (putOffAll (listsAt listed₀ next₀ (reached₀ .listed) (reached₀ .next)) (reverse (drop i edges))))
+Inv-loop count edges listed₀ place₀ next₀ reached₀ i₀ listed place next reached i =
+    (i ≤ length edges) × Held count listed place next (reached .listed) (reached .next) (putOffAll (listsAt listed₀ next₀ (reached₀ .listed) (reached₀ .next)) (reverse (drop i edges)))
 
 abbrev μ-loop : tie.MeasureT-loop
-μ-loop edges listed₀ place₀ next₀ reached₀ i₀ listed place next reached i = i
+μ-loop count edges listed₀ place₀ next₀ reached₀ i₀ listed place next reached i = i
 
 loop-holds : tie.Need-loop-holds Inv-loop μ-loop
-loop-holds c = (omega arith, c .before .before .before .before .pre, λ n h b. part-start _ _ _ _ _ _ _ (c .before .before .before .before .args .edges .now) h)
+loop-holds c = let start = c .before .before .before .before in (omega arith, part-start _ _ _ _ _ _ _ (start .args .edges .now) (start .pre .1))
 
 put-off-requires : tie.Need-put-off-requires Inv-loop μ-loop
-put-off-requires c κs = c .before .before .before .before .before .before .loop .inv .1
+put-off-requires c κs =
+    let after-item = c .before .before .before in
+    let at-loop = after-item .before .before .before in
+    let start = at-loop .before .before .before .before .before in
+    (held-at _ _ _ _ _ _ _ (at-loop .loop .inv .1), start .pre .0 _ (rw (after-item .node-of-edge .ensures) (mem-getD (start .args .edges .now) (at-loop .loop .i - 1) 0 (omega arith))))
 
 loop-again : tie.Need-loop-again Inv-loop μ-loop
 loop-again c =
-    let l = c .before .before .before .before .before .before .before .before .before .before .before .before .before .loop in
-    let e = c .before .before .before .before .before .before .before .before .before .before .node-of-edge .ensures in (
-      omega arith,
-      c .before .before .before .before .before .before .put-off .ensures .0,
-      λ n h b.
-          let k = l .inv .2 n h b in
-          part-more _ _ _ _ _ _ _ _ _ (c .before .before .before .before .before .before .before .before .before .before .before .before .loop-test .taken) (l .inv .0) k _ e _ _ _ _ _
-          (c .before .before .before .before .before .before .put-off .ensures .1 n (held-at _ _ _ _ _ _ _ k) (b _ (rw e (mem-getD (c .before .before .before .before .before .before .before .before .before .before .before .before .before .before .before .before .before .before .args .edges .now) (l .i - 1) 0 (omega arith))))),
-    )
+    let after-put-off = c .before .before .before .before .before .before in
+    let after-item = after-put-off .before .before .before .before in
+    let in-loop = after-item .before .before in
+    let l = in-loop .before .loop in
+    (omega arith, part-more _ _ _ _ _ _ _ _ _ (in-loop .loop-test .taken) (l .inv .0) (l .inv .1) _ (after-item .node-of-edge .ensures) _ _ _ _ _ (after-put-off .put-off .ensures))
 
 returns : tie.Need-returns Inv-loop μ-loop
-returns c = (c .before .loop .inv .1, λ n h b. part-done _ _ _ _ _ _ _ _ _ (c .loop-test .left) (c .before .loop .inv .2 n h b))
+returns c = part-done _ _ _ _ _ _ _ _ _ (c .loop-test .left) (c .before .loop .inv .1)
 
 pub put-off-part-spec : {M : Type 1} → statement M
 put-off-part-spec =

@@ -1,43 +1,42 @@
 -- `put_off_sharing` meets its contract. The invariant: the parts of the turns passed are put off.
-use Prim.Native.Nat.{ℕ, _-_, _≤_, _<_}
+use Prim.Native.Nat.{_-_, _≤_}
 use native.Mathlib.Omega.{arith}
 use borrow.Author.Needs.{needs}
-use Rattle.graph.specs.CheckLaws.{Passed}
-use Rattle.graph.specs.Edges.{edgeCount}
 use Rattle.graph.specs.Stretch.{stretch}
-use Rattle.graph.specs.StretchLaws.{Table}
 use Rattle.greedy.specs.IndependentSet.{putOffAll}
-use Rattle.independent_set.specs.Listing.{Sized, Held, listsAt, held-at}
+use Rattle.independent_set.specs.Listing.{Held, listsAt, held-at}
 use Rattle.independent_set.specs.Neighbors.{partsTo, part-below, parts-all, parts-done, parts-more, parts-none}
 use Rattle.independent_set.proofs.edges.put_off_sharing.Statement.{statement}
 use Rattle.independent_set.proofs.edges.put_off_sharing.Tie as tie
 
 abbrev Inv-loop : tie.InvT-loop
-Inv-loop ends starts entries listed₀ place₀ next₀ edge reached₀ turn₀ listed place next reached turn =
-    (turn ≤ 4) × Sized listed place next (reached .listed) (reached .next)
-    × ((n : ℕ) → Passed n ends → Table ends n starts entries → edge .0 < edgeCount ends → Held (edgeCount ends) listed₀ place₀ next₀ (reached₀ .listed) (reached₀ .next) (listsAt listed₀ next₀ (reached₀ .listed) (reached₀ .next))
-    → Held (edgeCount ends) listed place next (reached .listed) (reached .next) (putOffAll (listsAt listed₀ next₀ (reached₀ .listed) (reached₀ .next)) (partsTo (stretch starts entries) ends (edge .0) turn)))
+Inv-loop items ends starts entries listed₀ place₀ next₀ edge reached₀ turn₀ listed place next reached turn =
+    (turn ≤ 4) × Held (items .count) listed place next (reached .listed) (reached .next) (putOffAll (listsAt listed₀ next₀ (reached₀ .listed) (reached₀ .next)) (partsTo (stretch starts entries) ends (edge .0) turn))
 
 abbrev μ-loop : tie.MeasureT-loop
-μ-loop ends starts entries listed₀ place₀ next₀ edge reached₀ turn₀ listed place next reached turn = 4 - turn
+μ-loop items ends starts entries listed₀ place₀ next₀ edge reached₀ turn₀ listed place next reached turn = 4 - turn
 
 loop-holds : tie.Need-loop-holds Inv-loop μ-loop
-loop-holds c = (omega arith, c .before .before .before .before .before .before .pre, λ n p t b h. parts-none _ _ _ _ _ _ _ _ _ _ h)
+loop-holds c = (omega arith, parts-none _ _ _ _ _ _ _ _ _ _ (c .before .before .before .before .before .before .pre .1))
 
 put-off-part-requires : tie.Need-put-off-part-requires Inv-loop μ-loop
-put-off-part-requires c κs = c .before .before .before .before .before .loop .inv .1
+put-off-part-requires c κs =
+    let after-part-at = c .before .before .before in
+    let at-loop = after-part-at .before .before in
+    let known = at-loop .before .before .before .before .before .before .before .pre .0 in
+    (part-below _ _ _ _ _ (known .0) (known .1) (known .2) _ _ (after-part-at .part-at .ensures), held-at _ _ _ _ _ _ _ (at-loop .loop .inv .1))
 
 loop-again : tie.Need-loop-again Inv-loop μ-loop
-loop-again c = (
-  omega arith,
-  c .before .before .before .before .before .before .put-off-part .ensures .0,
-  λ n p t b h.
-      let k = c .before .before .before .before .before .before .before .before .before .before .before .before .loop .inv .2 n p t b h in
-      parts-more _ _ _ _ _ _ _ _ _ _ _ _ (c .before .before .before .before .before .before .before .before .before .before .part-at .ensures) k _ _ _ _ _ (c .before .before .before .before .before .before .put-off-part .ensures .1 _ (held-at _ _ _ _ _ _ _ k) (part-below _ _ _ _ _ p t b _ _ (c .before .before .before .before .before .before .before .before .before .before .part-at .ensures))),
-)
+loop-again c =
+    let after-put-off = c .before .before .before .before .before .before in
+    let after-part-at = after-put-off .before .before .before .before in
+    let at-loop = after-part-at .before .before in
+    (omega arith, parts-more _ _ _ _ _ _ _ _ _ _ _ _ (after-part-at .part-at .ensures) (at-loop .loop .inv .1) _ _ _ _ _ (after-put-off .put-off-part .ensures))
 
 returns : tie.Need-returns Inv-loop μ-loop
-returns c = λ n p t b h. parts-done _ _ _ _ _ _ _ _ _ _ _ _ (c .before .loop .inv .0) (c .loop-test .left) (parts-all _ _ _ _ _ p t b) (c .before .loop .inv .2 n p t b h)
+returns c =
+    let known = c .before .before .before .before .before .before .before .before .pre .0 in
+    parts-done _ _ _ _ _ _ _ _ _ _ _ _ (c .before .loop .inv .0) (c .loop-test .left) (parts-all _ _ _ _ _ (known .0) (known .1) (known .2)) (c .before .loop .inv .1)
 
 pub put-off-sharing-spec : {M : Type 1} → statement M
 put-off-sharing-spec =

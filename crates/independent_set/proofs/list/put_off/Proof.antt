@@ -8,48 +8,55 @@ use Rattle.independent_set.specs.Listing.{listed-there, not-listed, not-
 use Rattle.independent_set.proofs.list.put_off.Statement.{statement}
 use Rattle.independent_set.proofs.list.put_off.Tie as tie
 
-returns : tie.Need-returns
-returns c = (c .before .before .pre, λ n h b. absurd (omega (arith, h .first .few)))
-
 cast-here : tie.Need-cast-here
-cast-here c = omega (arith, c .slice-known .given (c .before .before .before .args .item .0))
+cast-here c = omega (arith, c .slice-known .given (c .before .before .args .item .0))
+
+returns : tie.Need-returns
+returns c = let held = c .before .before .before .pre .0 in put-off-other _ _ _ _ _ _ _ held _ _ (not-listed _ _ _ _ _ _ (held .first) (c .if1 .taken)) refl
 
 returns-2 : tie.Need-returns-2
-returns-2 c = (c .before .before .before .before .pre, λ n h b. put-off-other _ _ _ _ _ _ _ h _ _ (not-listed _ _ _ _ _ _ (h .first) (c .if2 .taken)) refl)
+returns-2 c =
+    let start = c .before .before .before .before .before .before in
+    let held = start .pre .0 in
+    put-off-other _ _ _ _ _ _ _ held _ _ (not-there _ _ _ _ _ _ (held .first) (c .if2 .taken)) refl
 
-returns-3 : tie.Need-returns-3
-returns-3 c = (c .before .before .before .before .before .before .before .pre, λ n h b. put-off-other _ _ _ _ _ _ _ h _ _ (not-there _ _ _ _ _ _ (h .first) (c .if3 .taken)) refl)
+cast-place : tie.Need-cast-place
+cast-place c = let else1 = c .before .before .before .before in let start = else1 .before .before .before in omega (arith, start .pre .0 .first .inside (start .args .counts .listed - 1) (omega (arith, else1 .if1 .left)), start .pre .0 .first .few)
 
-cast-moved : tie.Need-cast-moved
-cast-moved c = omega (arith, c .slice-known3 .given (c .before .before .before .before .before .before .before .before .args .counts .listed - 1))
+mul-place : tie.Need-mul-place
+mul-place c = let else1 = c .before .before .before .before in let start = else1 .before .before .before in omega (arith, start .pre .0 .first .inside (start .args .counts .listed - 1) (omega (arith, else1 .if1 .left)), start .pre .0 .first .few)
 
-returns-4 : tie.Need-returns-4
-returns-4 c = (c .before .before .before .before .before .before .before .before .before .pre, λ n h b. absurd (omega (arith, h .first .few, h .first .inside (c .before .before .before .before .before .before .before .before .before .args .counts .listed - 1) (omega arith))))
+slice-write-place : tie.Need-slice-write-place
+slice-write-place c =
+    let else1 = c .before .before .before .before in
+    let start = else1 .before .before .before in
+    let list = start .pre .0 .first in
+    omega (arith, list .inside (start .args .counts .listed - 1) (omega (arith, else1 .if1 .left)), list .few, list .places)
 
 slice-write-place-2 : tie.Need-slice-write-place-2
-slice-write-place-2 c = simp length-set (omega arith)
+slice-write-place-2 c = let start = c .before .before .before .before .before .before .before in simp length-set (omega (arith, start .pre .1, start .pre .0 .first .few, start .pre .0 .first .places))
 
-returns-5 : tie.Need-returns-5
-returns-5 c = (
-  record { first = simp length-set (c .before .before .before .before .before .before .before .before .before .pre .first); places = simp length-set (c .before .before .before .before .before .before .before .before .before .pre .places); second = simp length-set (c .before .before .before .before .before .before .before .before .before .pre .second); total = omega arith },
-  λ n h b. put-off-listed _ _ _ _ _ _ _ h _ _ (listed-there _ _ _ _ _ _ (h .first) (c .before .before .before .before .before .if2 .left) (c .before .before .if3 .left)) refl _ _ refl refl,
-)
+returns-3 : tie.Need-returns-3
+returns-3 c =
+    let else2 = c .before in
+    let else1 = else2 .before .before .before in
+    let held = else1 .before .before .before .pre .0 in
+    put-off-listed _ _ _ _ _ _ _ held _ _ (listed-there _ _ _ _ _ _ (held .first) (else1 .if1 .left) (else2 .if2 .left)) refl _ _ refl refl
 
 pub put-off-spec : {M : Type 1} → statement M
 put-off-spec =
     tie.close
     (tie.spec
-    (λ c. search needs)
+    (λ c. search needs) (λ c. search needs) (λ c. search needs)
+    cast-here
     returns
     (λ c. search needs) (λ c. search needs)
-    cast-here
     returns-2
-    (λ c. search needs) (λ c. search needs)
-    returns-3
-    (λ c. search needs) (λ c. search needs) (λ c. search needs)
-    cast-moved
-    returns-4
-    (λ c. search needs) (λ c. search needs) (λ c. search needs) (λ c. search needs) (λ c. search needs) (λ c. search needs) (λ c. search needs) (λ c. search needs)
+    (λ c. search needs) (λ c. search needs) (λ c. search needs) (λ c. search needs) (λ c. search needs)
+    cast-place
+    mul-place
+    slice-write-place
+    (λ c. search needs) (λ c. search needs) (λ c. search needs) (λ c. search needs)
     slice-write-place-2
     (λ c. search needs) (λ c. search needs) (λ c. search needs) (λ c. search needs) (λ c. search needs)
-    returns-5)
+    returns-3)

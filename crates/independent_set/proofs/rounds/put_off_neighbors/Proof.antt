@@ -1,22 +1,28 @@
 -- `put_off_neighbors` meets its contract, for each kind of items.
 use borrow.Author.Needs.{needs}
-use Rattle.independent_set.specs.Items.{edges-left, nodes-left}
 use Rattle.independent_set.proofs.rounds.put_off_neighbors.Statement.{statement}
 use Rattle.independent_set.proofs.rounds.put_off_neighbors.Tie as tie
 
-returns : tie.Need-returns
-returns c = let pre = c .before .before .before .before .before .before .before .before .before .before .before .before .before .before .before .before .before .before .pre in edges-left _ _ _ _ (pre .0) _ _ _ _ _ _ _ _ _ _ _ _ (pre .1 .0) (pre .1 .1) (c .before .before .before .before .before .before .before .before .before .before .before .if1 .taken) _ (c .before .before .before .before .before .before .before .before .before .before .edge-of-node .ensures) (c .before .before .before .before .before .before .put-off-sharing .ensures)
+put-off-sharing-requires : tie.Need-put-off-sharing-requires
+put-off-sharing-requires c κs =
+    let after-edge-of-node = c .before .before .before in
+    let then1 = after-edge-of-node .before in
+    let pre = then1 .before .before .before .before .before .before .before .pre in
+    ((then1 .if1 .taken, pre .0, rw (after-edge-of-node .edge-of-node .ensures) (pre .1 .1)), pre .1 .0)
 
-returns-2 : tie.Need-returns-2
-returns-2 c = let pre = c .before .before .before .before .before .before .before .before .before .before .before .before .before .before .before .before .before .pre in nodes-left _ _ _ _ (pre .0) _ _ _ _ _ _ _ _ _ _ _ _ (pre .1 .0) (pre .1 .1) (c .before .before .before .before .before .before .before .before .before .before .if1 .left) (c .before .before .before .before .before .before .put-off-far-ends .ensures)
+returns : tie.Need-returns
+returns c =
+    let after-put-off = c .before .before .before .before .before .before in
+    let after-edge-of-node = after-put-off .before .before .before .before in
+    rw (← after-edge-of-node .edge-of-node .ensures) (after-put-off .put-off-sharing .ensures)
 
 pub put-off-neighbors-spec : {M : Type 1} → statement M
 put-off-neighbors-spec =
     tie.close
     (tie.spec
-    (λ c κs. search needs) (λ c κs. search needs)
+    (λ c κs. search needs)
+    put-off-sharing-requires
     (λ c. search needs) (λ c. search needs) (λ c. search needs)
     returns
     (λ c κs. search needs)
-    (λ c. search needs) (λ c. search needs) (λ c. search needs)
-    returns-2)
+    (λ c. search needs) (λ c. search needs) (λ c. search needs) (λ c. search needs))
