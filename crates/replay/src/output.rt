@@ -95,7 +95,13 @@ pub(crate) fn put_part(text: &mut [u8], waiting: usize, list: &[u16]) -> usize {
 }
 
 // The part of a line before its slices.
-pub(crate) fn put_report(text: &mut [u8], waiting: usize, name: &[u8], word: &[u8], value: u64) -> usize {
+pub(crate) fn put_report(
+    text: &mut [u8],
+    waiting: usize,
+    name: &[u8],
+    word: &[u8],
+    value: u64,
+) -> usize {
     let end = put_all(text, waiting, name);
     let end = put(text, end, b' ');
     let end = put_all(text, end, word);
