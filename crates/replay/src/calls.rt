@@ -128,18 +128,7 @@ fn call_edges_at(
     put(text, end, b'\n')
 }
 
-// One step of a walk: the edge, or the word that says the end.
-fn put_step(text: &mut [u8], waiting: usize, step: WalkStep) -> usize {
-    match step {
-        WalkStep::End => put_all(text, waiting, b" end"),
-        WalkStep::Edge(edge, _next) => {
-            let end = put(text, waiting, b' ');
-            put_number(text, end, edge.0 as u64)
-        }
-    }
-}
-
-// What a walk meets from this place on: the edges before place `count`, and what stands there.
+// What a walk meets from this place on, each step at the place that the one before gave, and the word that says the end.
 fn put_walk(
     text: &mut [u8],
     waiting: usize,
@@ -147,16 +136,22 @@ fn put_walk(
     entries: &[u16],
     node: NodeIndex,
     place: usize,
-    count: usize,
 ) -> usize {
     let mut end = waiting;
     let mut at = place;
-    while at < count {
-        end = put_step(text, end, edge_at(starts, entries, node, at));
-        at += 1;
+    loop {
+        match edge_at(starts, entries, node, at) {
+            WalkStep::End => {
+                end = put_all(text, end, b" end");
+                return put(text, end, b'\n');
+            }
+            WalkStep::Edge(edge, next) => {
+                end = put(text, end, b' ');
+                end = put_number(text, end, edge.0 as u64);
+                at = next;
+            }
+        }
     }
-    end = put_step(text, end, edge_at(starts, entries, node, at));
-    put(text, end, b'\n')
 }
 
 // A walk over one node's edges in the graph's own table. A graph that is refused leaves the slices as lent, which give no edges.
@@ -178,8 +173,7 @@ fn call_edge_walk(
     incidence::incidence(n, ends, starts, entries);
     let end = put_all(text, waiting, b"edge_walk:");
     let node = NodeIndex(narrow(line.first));
-    let count = edges_at(starts, entries, node).len();
-    put_walk(text, end, starts, entries, node, line.second, count)
+    put_walk(text, end, starts, entries, node, line.second)
 }
 
 fn call_two_color(
