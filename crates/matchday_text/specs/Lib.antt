@@ -7,3 +7,4 @@ pub mod PutLaws
 pub mod CallLaws
 pub mod FileText
 pub mod Examples
+pub mod ExampleLaws

@@ -60,7 +60,8 @@ module _ (ends edges : List ℕ) (v : ℕ) where
     pub only : (w : ℕ) → getD seen w 0 ≡ v + 1 → (a : ℕ) × (a < i) × (farAt a ≡ w)
     pub low : (w : ℕ) → getD seen w 0 ≤ v + 1
 
-  pub seen-none : (seen : List ℕ) → Ready seen → Seen 0 seen
+module _ (ends edges : List ℕ) (v : ℕ) where
+  pub seen-none : (seen : List ℕ) → Ready ends edges v seen → Seen ends edges v 0 seen
   seen-none seen r = record {
     distinct = λ a b h l. absurd (not-suc-le-zero l);
     stamped = λ a l. absurd (not-suc-le-zero l);
@@ -69,11 +70,11 @@ module _ (ends edges : List ℕ) (v : ℕ) where
   }
 
   -- `seen` has a place for the far end of the next edge.
-  pub seen-room : (before seen : List ℕ) (i w : ℕ) → Ready before → Seen i seen → length seen ≡ length before → i < length edges → w ≡ farEnd ends (getD edges i 0) v → w < length seen
+  pub seen-room : (before seen : List ℕ) (i w : ℕ) → Ready ends edges v before → Seen ends edges v i seen → length seen ≡ length before → i < length edges → w ≡ farEnd ends (getD edges i 0) v → w < length seen
   seen-room before seen i w r s l h p = omega (arith, r .inside i h)
 
   -- The edge at place i has far end w. Without v's stamp at w, no edge before it has that far end.
-  pub seen-more : (seen : List ℕ) (i w next : ℕ) → Seen i seen → w ≡ farEnd ends (getD edges i 0) v → w < length seen → (getD seen w 0 ≡ v + 1 → ⊥) → next ≡ i + 1 → Seen next (set seen w (v + 1))
+  pub seen-more : (seen : List ℕ) (i w next : ℕ) → Seen ends edges v i seen → w ≡ farEnd ends (getD edges i 0) v → w < length seen → (getD seen w 0 ≡ v + 1 → ⊥) → next ≡ i + 1 → Seen ends edges v next (set seen w (v + 1))
   seen-more seen i w next s p h new e = rw e (record {
     distinct = λ a b l m e. elim (dec-eq b i) [
       | inl q ↦ new (rw (p ∙ sym (rw q at e)) (s .stamped a (omega arith)))
@@ -81,7 +82,7 @@ module _ (ends edges : List ℕ) (v : ℕ) where
     ];
     stamped = λ a l. elim (dec-eq a i) [
       | inl q ↦ rw (q, ← p) (getD-set-same seen w (v + 1) 0 h)
-      | inr q ↦ let old = s .stamped a (omega arith) in getD-set-other seen w (farAt a) (v + 1) 0 (λ e. new (rw (sym e) old)) ∙ old
+      | inr q ↦ let old = s .stamped a (omega arith) in getD-set-other seen w (farAt ends edges v a) (v + 1) 0 (λ e. new (rw (sym e) old)) ∙ old
     ];
     only = λ x e. elim (dec-eq x w) [
       | inl q ↦ (i, omega arith, sym (q ∙ p))
@@ -94,7 +95,7 @@ module _ (ends edges : List ℕ) (v : ℕ) where
   })
 
   -- With v's stamp at w, an edge before it has that far end too.
-  pub seen-twice : (seen : List ℕ) (i w : ℕ) → Seen i seen → w ≡ farEnd ends (getD edges i 0) v → i < length edges → getD seen w 0 ≡ v + 1 → Tells true
+  pub seen-twice : (seen : List ℕ) (i w : ℕ) → Seen ends edges v i seen → w ≡ farEnd ends (getD edges i 0) v → i < length edges → getD seen w 0 ≡ v + 1 → Tells ends edges v true
   seen-twice seen i w s p h e =
       let r = s .only w e in
       record {
@@ -103,7 +104,7 @@ module _ (ends edges : List ℕ) (v : ℕ) where
       }
 
   -- No edge is left, and none had its far end stamped.
-  pub seen-all : (seen : List ℕ) (i : ℕ) → Seen i seen → length edges ≤ i → Tells false
+  pub seen-all : (seen : List ℕ) (i : ℕ) → Seen ends edges v i seen → length edges ≤ i → Tells ends edges v false
   seen-all seen i s h = record {
     twice = λ t. absurd (false≢true t);
     distinct = λ t a b l m. s .distinct a b l (omega arith);
