@@ -1,3 +1,2 @@
 -- What the callers rely on, and that the calls' contracts give it.
 pub mod Reliance
-pub mod RelianceLaws

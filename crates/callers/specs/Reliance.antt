@@ -1,15 +1,15 @@
 -- What each caller relies on, of a call's report and of its slice afterwards.
-use Prim.Native.Nat.{ℕ, _<_, _≤_}
+use Prim.Native.Nat.{ℕ, _<_}
 use mathlib.Core.Path.{_≡_}
 use mathlib.Core.Logic.{_⊎_, _≢_}
 use mathlib.Core.List.{List}
 use mathlib.Core.Bool.{Bool}
 use lib.ListN.{length, getD}
 use Rattle.graph.specs.Report.{Report, accepted, refused, Accepted}
-use Rattle.graph.specs.CheckLaws.{Passed}
-use Rattle.graph.specs.Edges.{edgeCount, firstEnd, secondEnd}
-use Rattle.graph.specs.EdgeLaws.{At}
-use Rattle.graph.specs.Colored.{noColor, colorOf}
+use Rattle.graph.specs.Check.{Passed}
+use Rattle.graph.specs.Edges.{edgeCount, firstEnd, secondEnd, At}
+use Rattle.graph.specs.Color.{noColor}
+use Rattle.graph.specs.Colored.{colorOf}
 use Rattle.vizing.specs.Demand3.{Admitted}
 
 -- ---- the date table

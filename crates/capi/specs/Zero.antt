@@ -9,8 +9,8 @@ use lib.Dec.{ltb}
 use lib.ListN.{length}
 use borrow.Author.Tests.{ltb-true}
 use Rattle.graph.specs.Report.{Report, Accepted}
-use Rattle.graph.specs.Check.{Check, _gives_, firstRefusal, answered, graphChecks, lengthCheck}
-use Rattle.graph.specs.CheckLaws.{numbersPass, refusal-passes, answered-accepted, answered-refused}
+use Rattle.graph.specs.Check.{Check, _gives_, firstRefusal, answered, graphChecks, lengthCheck, numbersPass}
+use Rattle.graph.proofs.CheckLaws.{refusal-passes, answered-accepted, answered-refused}
 use Rattle.graph.specs.Edges.{edgeCount, neighbors}
 use Rattle.graph.specs.Table.{incidenceChecks, incidenceOf}
 use Rattle.graph.specs.Color.{Outcome, colored}

@@ -7,20 +7,22 @@ use native.Mathlib.Numerals.{add-one}
 use native.Mathlib.Omega.{arith}
 use lib.ListN.{length, getD, set, drop, drop-of-length-le}
 use lib.Seq.{drop-cons, getD-set-same, getD-set-other}
-use Rattle.lists.specs.Tests.{dec-eq}
-use Rattle.lists.specs.Member.{Mem, mem-getD}
-use Rattle.lists.specs.Parts.{copiedOver, copied-same}
+use Rattle.lists.proofs.Tests.{dec-eq}
+use Rattle.lists.specs.Member.{Mem}
+use Rattle.lists.proofs.MemberLaws.{mem-getD}
+use Rattle.lists.specs.Parts.{copiedOver}
+use Rattle.lists.proofs.PartsLaws.{copied-same}
 use Rattle.graph.specs.Edges.{edgeCount, degree, neighbors}
 use Rattle.graph.specs.Color.{smallestFrom}
 use Rattle.graph.specs.Colored.{smallestFreeAt}
-use Rattle.graph.specs.Stretch.{stretch}
-use Rattle.graph.specs.StretchLaws.{Table}
-use Rattle.graph.specs.CheckLaws.{Passed}
-use Rattle.graph.specs.NeighborLaws.{length-neighbors, passed-degree}
+use Rattle.graph.specs.Stretch.{stretch, Table}
+use Rattle.graph.specs.Check.{Passed}
+use Rattle.graph.proofs.NeighborLaws.{length-neighbors, passed-degree}
 use Rattle.greedy.specs.Turn.{uncolored, colorItem}
-use Rattle.greedy.specs.UncoloredLaws.{uncolored-member}
+use Rattle.greedy.proofs.UncoloredLaws.{uncolored-member}
 use Rattle.greedy.specs.Degree.{colorInOrder, degreeOrder, degreeColors}
-use Rattle.greedy.specs.Marks.{farColors, smallest-color-node}
+use Rattle.greedy.specs.Marks.{farColors}
+use Rattle.greedy.proofs.MarksLaws.{smallest-color-node}
 use Rattle.degree.specs.Buckets.{fallingBuckets, falling-same}
 use Rattle.degree.specs.OrderLaws.{degreeAmong, degree-among, order-buckets, order-member}
 use Rattle.degree.specs.CountLaws.{degreeIn, Countable}

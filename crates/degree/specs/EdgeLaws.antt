@@ -7,23 +7,25 @@ use native.Mathlib.Numerals.{add-one}
 use native.Mathlib.Omega.{arith}
 use lib.ListN.{length, getD, set, drop, length-set}
 use lib.Seq.{drop-cons, getD-set-same, getD-set-other}
-use Rattle.lists.specs.Tests.{dec-eq}
+use Rattle.lists.proofs.Tests.{dec-eq}
 use Rattle.lists.specs.Member.{Mem, Nodup}
-use Rattle.lists.specs.Parts.{copiedOver, copied-same}
+use Rattle.lists.specs.Parts.{copiedOver}
+use Rattle.lists.proofs.PartsLaws.{copied-same}
 use Rattle.graph.specs.Edges.{edgeCount, firstEnd, secondEnd, degree}
-use Rattle.graph.specs.Color.{smallestFrom}
-use Rattle.graph.specs.Colored.{noColor, colorOf}
-use Rattle.graph.specs.ColoredLaws.{color-set-other}
-use Rattle.graph.specs.Stretch.{stretch}
-use Rattle.graph.specs.StretchLaws.{Table}
-use Rattle.graph.specs.CheckLaws.{Passed, passed-inside}
-use Rattle.graph.specs.NeighborLaws.{degree-bound}
-use Rattle.line_graph.specs.LineNeighborLaws.{line-neighbor-count, line-neighbor-count-loop}
+use Rattle.graph.specs.Color.{smallestFrom, noColor}
+use Rattle.graph.specs.Colored.{colorOf}
+use Rattle.graph.proofs.ColoredLaws.{color-set-other}
+use Rattle.graph.specs.Stretch.{stretch, Table}
+use Rattle.graph.specs.Check.{Passed}
+use Rattle.graph.proofs.CheckLaws.{passed-inside}
+use Rattle.graph.proofs.NeighborLaws.{degree-bound}
+use Rattle.line_graph.proofs.LineNeighborLaws.{line-neighbor-count, line-neighbor-count-loop}
 use Rattle.greedy.specs.Call.{edgeNeighbors}
 use Rattle.greedy.specs.Turn.{uncolored}
 use Rattle.greedy.specs.Degree.{colorInOrder, degreeOrder}
-use Rattle.greedy.specs.GreedyLaws.{edge-neighbors}
-use Rattle.greedy.specs.EdgeMarks.{colorsOf, smallest-color-edge}
+use Rattle.greedy.proofs.GreedyLaws.{edge-neighbors}
+use Rattle.greedy.specs.EdgeMarks.{colorsOf}
+use Rattle.greedy.proofs.EdgeMarksLaws.{smallest-color-edge}
 use Rattle.degree.specs.Buckets.{fallingBuckets}
 use Rattle.degree.specs.OrderLaws.{order-member, order-nodup}
 use Rattle.degree.specs.CountLaws.{degreeIn, Countable}

@@ -8,13 +8,14 @@ use native.Mathlib.Omega.{arith}
 use lib.ListN.{length, set, length-set}
 use lib.Dec.{eqb}
 use borrow.Author.Tests.{ne-eqb}
-use Rattle.lists.specs.Tests.{by-test, dec-eq}
+use Rattle.lists.proofs.Tests.{by-test, dec-eq}
 use Rattle.lists.specs.Member.{Mem}
-use Rattle.graph.specs.Edges.{firstEnd, secondEnd, edgesAt}
-use Rattle.graph.specs.EdgeLaws.{At, edge-at, at-edge}
-use Rattle.graph.specs.Colored.{noColor, colorOf}
+use Rattle.graph.specs.Edges.{firstEnd, secondEnd, edgesAt, At}
+use Rattle.graph.proofs.EdgeLaws.{edge-at, at-edge}
+use Rattle.graph.specs.Color.{noColor}
+use Rattle.graph.specs.Colored.{colorOf}
 use Rattle.vizing.specs.MisraGries.{edgeOfColor}
-use Rattle.graph.specs.ColoredLaws.{color-set-same, color-set-other}
+use Rattle.graph.proofs.ColoredLaws.{color-set-same, color-set-other}
 use Rattle.vizing.specs.DefinitionLaws.{some-or-none, edge-of-color-some, edge-of-color-none, none-has-none}
 use Rattle.vizing.specs.Coloring.{Free, color-edge, uncolor-edge}
 use Rattle.vizing.specs.Simple.{Incident}

@@ -7,7 +7,8 @@ use mathlib.Core.Bool.{Bool, true, false, cond}
 use lib.ListN.{getD, set}
 use lib.Dec.{eqb, ltb}
 use Rattle.graph.specs.Edges.{firstEnd, secondEnd}
-use Rattle.graph.specs.Colored.{noColor, colorOf}
+use Rattle.graph.specs.Color.{noColor}
+use Rattle.graph.specs.Colored.{colorOf}
 use Rattle.vizing.specs.MisraGries.{isNone}
 use Rattle.edge_table.specs.declared.EdgeOfColor.{EdgeOfColor}
 use Rattle.edge_table.specs.declared.EdgeOfColor.the-variants.{Edge, Nothing}

@@ -13,14 +13,13 @@ use lib.ListN.{length, getD, set, drop, replicate, length-set, length-replicate,
 use lib.Seq.{drop-cons, set-out, getD-set-same, getD-set-other}
 use lib.Dec.{eqb}
 use borrow.Author.Tests.{eq-eqb, ne-eqb, lt-ltb, le-ltb}
-use Rattle.lists.specs.Tests.{dec-eq}
+use Rattle.lists.proofs.Tests.{dec-eq}
 use Rattle.lists.specs.Member.{Mem}
-use Rattle.graph.specs.Edges.{firstEnd, secondEnd}
-use Rattle.graph.specs.EdgeLaws.{At}
-use Rattle.graph.specs.Colored.{noColor, colorOf}
+use Rattle.graph.specs.Edges.{firstEnd, secondEnd, At}
+use Rattle.graph.specs.Color.{noColor}
+use Rattle.graph.specs.Colored.{colorOf}
 use Rattle.vizing.specs.MisraGries.{isNone}
-use Rattle.edge_table.specs.EdgeTable.{noEdge, entryOf, edgeOfEntry, entryAt, tableEdge, isEmpty, emptyFrom, smallestEmpty, entered, enteredAtEnds}
-use Rattle.edge_table.specs.EdgeTable.{State, state, uncolored, colored, allUncolored, allColored, repainted}
+use Rattle.edge_table.specs.EdgeTable.{noEdge, entryOf, edgeOfEntry, entryAt, tableEdge, isEmpty, emptyFrom, smallestEmpty, entered, enteredAtEnds, State, state, uncolored, colored, allUncolored, allColored, repainted}
 
 -- ---- lists
 

@@ -6,10 +6,12 @@ use mathlib.Core.List.{List, [], _∷_}
 use native.Mathlib.Omega.{arith}
 use lib.ListN.{length, set, length-set}
 use lib.Seq.{set-set, set-comm}
-use Rattle.lists.specs.Member.{Mem, Nodup, dec-mem}
-use Rattle.graph.specs.Colored.{noColor, colorOf}
+use Rattle.lists.specs.Member.{Mem, Nodup}
+use Rattle.lists.proofs.MemberLaws.{dec-mem}
+use Rattle.graph.specs.Color.{noColor}
+use Rattle.graph.specs.Colored.{colorOf}
 use Rattle.vizing.specs.MisraGries.{store}
-use Rattle.graph.specs.ColoredLaws.{color-set-same, color-set-other}
+use Rattle.graph.proofs.ColoredLaws.{color-set-same, color-set-other}
 use Rattle.vizing.specs.DefinitionLaws.{color-store-other}
 use Rattle.vizing.specs.Coloring.{Free, Proper}
 use Rattle.vizing.specs.Simple.{Incident}

@@ -8,10 +8,11 @@ use native.Mathlib.Decide.{decLt}
 use lib.ListN.{length, replicate, length-replicate}
 use Rattle.lists.specs.Member.{Mem}
 use Rattle.graph.specs.Edges.{firstEnd, secondEnd, edgesAt}
-use Rattle.graph.specs.EdgeLaws.{edge-at}
-use Rattle.graph.specs.Colored.{noColor, colorOf, smallestFreeAt}
+use Rattle.graph.proofs.EdgeLaws.{edge-at}
+use Rattle.graph.specs.Color.{noColor}
+use Rattle.graph.specs.Colored.{colorOf, smallestFreeAt}
 use Rattle.vizing.specs.MisraGries.{edgeOfColor, isNone, isFree}
-use Rattle.graph.specs.ColoredLaws.{NoneHas, color-replicate, smallest-free-found}
+use Rattle.graph.proofs.ColoredLaws.{NoneHas, color-replicate, smallest-free-found}
 use Rattle.vizing.specs.DefinitionLaws.{none-has-none, is-free-true, is-free-false}
 use Rattle.vizing.specs.Coloring.{Proper}
 use Rattle.vizing.specs.Simple.{Incident}

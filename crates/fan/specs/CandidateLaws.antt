@@ -11,10 +11,12 @@ use lib.ListN.{length, getD, take, drop, drop-of-length-le}
 use lib.Seq.{drop-cons, take-add}
 use lib.Dec.{eqb}
 use borrow.Author.Tests.{eq-eqb, ne-eqb}
-use Rattle.lists.specs.Tests.{by-test}
-use Rattle.lists.specs.Member.{Mem, mem-append}
-use Rattle.graph.specs.Colored.{noColor, colorOf}
-use Rattle.graph.specs.ColoredLaws.{colored-true, uncolored-false}
+use Rattle.lists.proofs.Tests.{by-test}
+use Rattle.lists.specs.Member.{Mem}
+use Rattle.lists.proofs.MemberLaws.{mem-append}
+use Rattle.graph.specs.Color.{noColor}
+use Rattle.graph.specs.Colored.{colorOf}
+use Rattle.graph.proofs.ColoredLaws.{colored-true, uncolored-false}
 use Rattle.edge_table.specs.EdgeTable.{isEmpty}
 use Rattle.fan.specs.Candidates.{firstThat, mayJoin, joinsMarked, placeThat, Passed}
 

@@ -9,7 +9,7 @@ use native.Mathlib.Omega.{arith}
 use native.Mathlib.Nat.{not-suc-le-zero}
 use lib.ListN.{length, set, take}
 use Rattle.graph.specs.Edges.{farEnd, edgesAt}
-use Rattle.graph.specs.EdgeLaws.{edge-at}
+use Rattle.graph.proofs.EdgeLaws.{edge-at}
 use Rattle.vizing.specs.MisraGries.{isNone, edgeOfColor, path}
 use Rattle.vizing.specs.DefinitionLaws.{some-or-none, edge-of-color-some}
 use Rattle.edge_table.specs.EdgeTable.{optionOf, tableEdge, isEmpty}

@@ -8,7 +8,7 @@ use native.Mathlib.Omega.{arith}
 use native.Mathlib.Numerals.{add-one}
 use lib.ListN.{length, getD, take, drop, drop-of-length-le}
 use lib.Seq.{drop-cons}
-use Rattle.lists.specs.Tests.{by-test}
+use Rattle.lists.proofs.Tests.{by-test}
 use Rattle.lists.specs.Member.{Mem}
 use Rattle.graph.specs.Edges.{farEnd, edgesAt}
 use Rattle.vizing.specs.MisraGries.{isFree, placesTo}

@@ -1,12 +1,14 @@
 -- Checks: tests in order, each with the number that it refuses by.
-use Prim.Native.Nat.{ℕ, _%_, _/_}
+use Prim.Native.Nat.{ℕ, _%_, _/_, _*_, _≤_, _<_}
 use mathlib.Core.List.{List, [], _∷_}
-use mathlib.Core.Bool.{Bool, true, false, not}
+use mathlib.Core.Bool.{Bool, true, false, not, _&&_}
 use mathlib.Core.Option.{Option, none, some}
-use lib.ListN.{length}
+use lib.ListN.{length, getD}
 use lib.Dec.{ltb, eqb}
 use Rattle.lists.specs.Search.{allBelow}
 use Rattle.graph.specs.Report.{Report, accepted, refused}
+use mathlib.Core.Path.{_≡_}
+use Rattle.graph.specs.Edges.{edgeCount}
 
 -- A test that refuses by a number where it holds.
 pub data Check : Type 0 where
@@ -42,3 +44,19 @@ lengthCheck given wanted = not (eqb given wanted) gives 5
 -- The graph checks report n and m.
 unfoldable pub checkGraph : ℕ → List ℕ → Report (ℕ × ℕ)
 checkGraph n ends = answered (graphChecks n ends) (n, length ends / 2)
+
+-- ---- checks in a row
+
+-- Every number by which a check of the list may refuse passes the test.
+unfoldable pub numbersPass : (ℕ → Bool) → List Check → Bool
+numbersPass test [] = true
+numbersPass test ((b gives k) ∷ checks) = test k && numbersPass test checks
+
+-- ---- a graph that passed
+
+-- What the graph checks leave of n and the end list.
+pub record Passed (n : ℕ) (ends : List ℕ) : Type 0 where
+  pub nodes : n ≤ 512
+  pub even : length ends ≡ 2 * edgeCount ends
+  pub edges : edgeCount ends ≤ 4096
+  pub inside : (i : ℕ) → i < length ends → getD ends i 0 < n

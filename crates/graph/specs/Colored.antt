@@ -5,8 +5,7 @@ use mathlib.Core.List.{List, [], _∷_, map}
 use lib.Dec.{eqb}
 use lib.ListN.{getD}
 use Rattle.graph.specs.Edges.{keep}
-use Rattle.graph.specs.Color.{smallestFree}
-pub use Rattle.graph.specs.Color.{noColor}
+use Rattle.graph.specs.Color.{smallestFree, noColor}
 
 -- The colour at place k: that of node k or of edge k. Beyond the list there is none.
 unfoldable pub colorOf : List ℕ → ℕ → ℕ

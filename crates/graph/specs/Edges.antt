@@ -4,6 +4,8 @@ use mathlib.Core.List.{List, [], _∷_, _++_, map}
 use mathlib.Core.Bool.{Bool, true, false, not, _&&_, cond}
 use lib.ListN.{length, getD}
 use lib.Dec.{eqb}
+use mathlib.Core.Path.{_≡_}
+use mathlib.Core.Logic.{_⊎_}
 
 -- "m edges", each with two ends.
 abbrev pub edgeCount : List ℕ → ℕ
@@ -54,3 +56,7 @@ degree ends k v = length (edgesAt ends k v)
 -- The neighbours of node v in incidence order, along the first k edges: the far ends of its edges. A double edge gives one twice, a loop v once.
 unfoldable pub neighbors : List ℕ → ℕ → ℕ → List ℕ
 neighbors ends k v = map (λ (j : ℕ). farEnd ends j v) (edgesAt ends k v)
+
+-- Edge k has v as an end.
+abbrev pub At : List ℕ → ℕ → ℕ → Type 0
+At ends k v = (firstEnd ends k ≡ v) ⊎ (secondEnd ends k ≡ v)

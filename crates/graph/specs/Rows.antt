@@ -5,7 +5,7 @@ use mathlib.Core.List.{List, [], _∷_, _++_}
 use mathlib.Core.Path.{_≡_}
 use lib.Dec.{eqb}
 use Rattle.lists.specs.Equal.{equal}
-use Rattle.lists.specs.Tests.{and-true, true-and}
+use Rattle.lists.proofs.Tests.{and-true, true-and}
 use Rattle.graph.specs.Report.{Report, accepted, refused}
 use Rattle.graph.specs.Color.{Outcome}
 

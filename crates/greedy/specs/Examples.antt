@@ -10,8 +10,8 @@ use Rattle.lists.specs.Search.{allBelow}
 use Rattle.graph.specs.Report.{accepted}
 use Rattle.graph.specs.Check.{firstRefusal, answered, written, graphChecks}
 use Rattle.graph.specs.Edges.{firstEnd, secondEnd, isLoop, farEnd, secondAt, firstEdges, secondEdges, edgesAt, edgeCount, neighbors}
-use Rattle.graph.specs.Color.{colored, daysOf, smallestFree, smallestFrom}
-use Rattle.graph.specs.Colored.{noColor, colorOf, isColored, coloredAmong, smallestFreeAt}
+use Rattle.graph.specs.Color.{colored, daysOf, smallestFree, smallestFrom, noColor}
+use Rattle.graph.specs.Colored.{colorOf, isColored, coloredAmong, smallestFreeAt}
 use Rattle.graph.specs.Rows.{Row, sameReport, holds, allHold}
 use Rattle.line_graph.specs.LineList.{pairsWith, pairsOf, linePairs}
 use Rattle.greedy.specs.Turn.{uncolored, colorItem}

@@ -6,7 +6,8 @@ use mathlib.Core.Path.{_≡_}
 use lib.ListN.{length}
 use Rattle.lists.specs.Member.{Mem}
 use Rattle.lists.specs.Different.{count}
-use Rattle.graph.specs.Colored.{noColor, colorOf}
+use Rattle.graph.specs.Color.{noColor}
+use Rattle.graph.specs.Colored.{colorOf}
 
 -- The neighbours of n items: items among them, of each other, and not too many for the colours.
 pub record Neighborhood (nb : ℕ → List ℕ) (n : ℕ) : Type 0 where

@@ -1,16 +1,10 @@
 -- Greedy colouring: the three strategies over a number of items and their neighbours, and the call's outcome.
 pub mod Turn
-pub mod UncoloredLaws
 pub mod Degree
 pub mod Saturation
 pub mod IndependentSet
 pub mod Call
 pub mod Examples
-pub mod CallLaws
-pub mod Greedy
-pub mod GreedyLaws
-pub mod TurnLaws
-pub mod SaturationLaws
-pub mod CallerLaws
 pub mod Marks
 pub mod EdgeMarks
+pub mod Greedy

@@ -2,8 +2,7 @@
 -- `neighbors` of its edge list, for its edges that of the line list.
 use Prim.Native.Nat.{ℕ, zero, suc}
 use mathlib.Core.Bool.{not}
-use mathlib.Core.List.{List, [], _∷_, _++_}
-use lib.Dec.{eqb}
+use mathlib.Core.List.{List, [], _++_}
 use lib.ListN.{set}
 use Rattle.graph.specs.Edges.{keep}
 use Rattle.graph.specs.Colored.{isColored, smallestFreeAt}
@@ -16,8 +15,3 @@ uncolored colors (suc n) = uncolored colors n ++ keep (not (isColored colors n))
 -- Item v "takes the smallest colour that no already coloured neighbour has".
 unfoldable pub colorItem : (ℕ → List ℕ) → List ℕ → ℕ → List ℕ
 colorItem nb colors v = set colors v (smallestFreeAt colors (nb v))
-
--- Those of these items that are not v: its other neighbours, for its own loop makes an item a neighbour of itself.
-unfoldable pub others : ℕ → List ℕ → List ℕ
-others v [] = []
-others v (w ∷ ws) = keep (not (eqb w v)) w (others v ws)

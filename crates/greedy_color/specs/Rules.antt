@@ -5,16 +5,16 @@ use mathlib.Core.Path.{_≡_, sym, ap, subst, _∙_}
 use lib.ListN.{length, take, replicate, length-replicate}
 use lib.Seq.{length-take-le}
 use Rattle.graph.specs.Report.{Report, Accepted}
-use Rattle.graph.specs.Colored.{noColor}
+use Rattle.graph.specs.Color.{noColor}
 use Rattle.graph.specs.Edges.{edgeCount}
-use Rattle.graph.specs.CheckLaws.{Passed}
+use Rattle.graph.specs.Check.{Passed}
 use Rattle.greedy.specs.Degree.{degreeOrder, degreeColors}
-use Rattle.greedy.specs.TurnLaws.{in-order-greedy}
+use Rattle.greedy.proofs.TurnLaws.{in-order-greedy}
 use Rattle.greedy.specs.declared.ColoringStrategy.{ColoringStrategy}
 use Rattle.greedy.specs.Call.{Rule, ruleOf, greedyNodes, greedyNodesPlain, greedyEdges, greedyEdgesPlain, PrecoloringKept, ProperNodeColoring, ProperEdgeColoring}
-use Rattle.greedy.specs.CallerLaws.{GreedyRule, nodes-accept, edges-accept, precoloring-kept, proper-nodes, edge-precoloring-kept, proper-edges, nodes-plain-same, edges-plain-same, proper-nodes-without-presets, proper-edges-without-presets}
+use Rattle.greedy.proofs.CallerLaws.{GreedyRule, nodes-accept, edges-accept, precoloring-kept, proper-nodes, edge-precoloring-kept, proper-edges, nodes-plain-same, edges-plain-same, proper-nodes-without-presets, proper-edges-without-presets}
 use Rattle.greedy.specs.IndependentSet.{independentSetColors}
-use Rattle.independent_set.specs.IndependentSetLaws.{independent-set-greedy}
+use Rattle.independent_set.proofs.IndependentSetLaws.{independent-set-greedy}
 use Rattle.degree.specs.OrderLaws.{order-member, member-order, order-nodup}
 
 pub degree-greedy : GreedyRule degreeColors

@@ -3,7 +3,7 @@ ghost use mathlib.Core.Path.{_≡_};
 ghost use mathlib.Core.List.{[]};
 ghost use lib.ListN.{length};
 ghost use Rattle.graph.specs.Report.{reportOfColoring, Accepted};
-ghost use Rattle.graph.specs.CheckLaws.{Passed};
+ghost use Rattle.graph.specs.Check.{Passed};
 ghost use Rattle.graph.specs.Edges.{edgeCount};
 ghost use Rattle.greedy.specs.Degree.{degreeColors};
 ghost use Rattle.greedy.specs.Call.{ruleOf, greedyNodes, greedyNodesPlain, greedyEdges, greedyEdgesPlain, PrecoloringKept, ProperNodeColoring, ProperEdgeColoring};

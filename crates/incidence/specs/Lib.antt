@@ -1,4 +1,3 @@
 -- The incidence table's code: stretches filled from the back, one law for each answer, and the table at the front of longer slices.
-pub mod FillLaws
-pub mod IncidenceLaws
 pub mod Front
+pub mod Fill

@@ -2,7 +2,5 @@
 pub mod Listing
 pub mod Edges
 pub mod Neighbors
-pub mod ListLaws
 pub mod Items
 pub mod Rounds
-pub mod IndependentSetLaws

@@ -1,7 +1,7 @@
 // Greedy colouring by independent sets, of nodes and of edges.
 ghost use mathlib.Core.Path.{_≡_};
 ghost use lib.ListN.{length};
-ghost use Rattle.graph.specs.CheckLaws.{Passed};
+ghost use Rattle.graph.specs.Check.{Passed};
 ghost use Rattle.graph.specs.Report.{reportOfColoring};
 ghost use Rattle.greedy.specs.Call.{greedyNodes, greedyEdges};
 ghost use Rattle.greedy.specs.IndependentSet.{independentSetColors};

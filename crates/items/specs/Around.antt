@@ -8,7 +8,7 @@ use lib.ListN.{length, getD, take}
 use lib.Seq.{take-suc}
 use lib.Dec.{eqb}
 use borrow.Author.Tests.{eq-eqb, ne-eqb}
-use Rattle.lists.specs.Member.{map-append}
+use Rattle.lists.proofs.MemberLaws.{map-append}
 use Rattle.graph.specs.Stretch.{stretch}
 use Rattle.items.specs.declared.Kind.{Kind}
 use Rattle.items.specs.Items.{firstNode, secondNode, acrossOf}

@@ -9,22 +9,24 @@ use lib.ListN.{length, getD, drop, length-drop}
 use lib.Seq.{length-take-le}
 use lib.Dec.{eqb, ltb, leb}
 use borrow.Author.Tests.{leb-true, eq-eqb, ne-eqb}
-use Rattle.lists.specs.Tests.{by-test, dec-eq}
+use Rattle.lists.proofs.Tests.{by-test, dec-eq}
 use Rattle.lists.specs.Member.{Mem}
-use Rattle.graph.specs.CheckLaws.{Passed, passed-inside}
-use Rattle.graph.specs.Edges.{edgeCount, firstEnd, secondEnd, farEnd, edgesAt, degree, neighbors}
-use Rattle.graph.specs.EdgeLaws.{At, at-edge}
-use Rattle.graph.specs.Stretch.{stretch}
-use Rattle.graph.specs.StretchLaws.{Table}
-use Rattle.graph.specs.NeighborLaws.{neighbor-edge, edge-neighbor, passed-neighbor, length-neighbors}
+use Rattle.graph.specs.Check.{Passed}
+use Rattle.graph.proofs.CheckLaws.{passed-inside}
+use Rattle.graph.specs.Edges.{edgeCount, firstEnd, secondEnd, farEnd, edgesAt, degree, neighbors, At}
+use Rattle.graph.proofs.EdgeLaws.{at-edge}
+use Rattle.graph.specs.Stretch.{stretch, Table}
+use Rattle.graph.proofs.NeighborLaws.{neighbor-edge, edge-neighbor, passed-neighbor, length-neighbors}
 use Rattle.line_graph.specs.LineNeighbors.{lineNeighbors}
-use Rattle.line_graph.specs.LineNeighborLaws.{line-neighbor-member, member-line-neighbor, line-neighbor-symmetric, line-times-symmetric, line-neighbor-bound, line-neighbor-count, line-neighbor-count-loop}
+use Rattle.line_graph.proofs.LineNeighborLaws.{line-neighbor-member, member-line-neighbor, line-neighbor-symmetric, line-times-symmetric, line-neighbor-bound, line-neighbor-count, line-neighbor-count-loop}
 use Rattle.greedy.specs.Greedy.{Neighborhood}
-use Rattle.graph.specs.Color.{smallestFrom}
-use Rattle.graph.specs.Colored.{noColor, colorOf, smallestFreeAt}
-use Rattle.greedy.specs.GreedyLaws.{node-neighborhood, edge-neighbors}
-use Rattle.greedy.specs.Marks.{farColors, smallest-color-node}
-use Rattle.greedy.specs.EdgeMarks.{colorsOf, smallest-color-edge}
+use Rattle.graph.specs.Color.{smallestFrom, noColor}
+use Rattle.graph.specs.Colored.{colorOf, smallestFreeAt}
+use Rattle.greedy.proofs.GreedyLaws.{node-neighborhood, edge-neighbors}
+use Rattle.greedy.specs.Marks.{farColors}
+use Rattle.greedy.proofs.MarksLaws.{smallest-color-node}
+use Rattle.greedy.specs.EdgeMarks.{colorsOf}
+use Rattle.greedy.proofs.EdgeMarksLaws.{smallest-color-edge}
 use Rattle.items.specs.declared.Kind.{Kind}
 use Rattle.items.specs.declared.Kind.the-variants.{Nodes, Edges}
 

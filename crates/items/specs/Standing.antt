@@ -10,10 +10,11 @@ use lib.ListN.{length, getD, drop, drop-of-length-le}
 use lib.Seq.{drop-cons}
 use lib.Dec.{eqb, ltb}
 use borrow.Author.Tests.{lt-ltb, le-ltb, eq-eqb, ne-eqb, ltb-true, eqb-true}
-use Rattle.lists.specs.Tests.{and-true, and-false, or-true, true-or}
-use Rattle.lists.specs.Member.{Mem, mem-getD}
+use Rattle.lists.proofs.Tests.{and-true, and-false, or-true, true-or}
+use Rattle.lists.specs.Member.{Mem}
+use Rattle.lists.proofs.MemberLaws.{mem-getD}
 use Rattle.graph.specs.Colored.{colorOf}
-use Rattle.graph.specs.ColoredLaws.{color-read}
+use Rattle.graph.proofs.ColoredLaws.{color-read}
 use Rattle.items.specs.declared.Kind.{Kind}
 use Rattle.items.specs.Items.{acrossOf}
 

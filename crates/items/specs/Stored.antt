@@ -6,7 +6,8 @@ use mathlib.Core.List.{List, [], _∷_, _++_}
 use native.Mathlib.Omega.{arith}
 use lib.ListN.{length, getD, take, set, length-set}
 use lib.Seq.{set-out, take-length, getD-set-same, getD-set-other}
-use Rattle.lists.specs.Member.{Mem, dec-mem}
+use Rattle.lists.specs.Member.{Mem}
+use Rattle.lists.proofs.MemberLaws.{dec-mem}
 use Rattle.items.specs.declared.Kind.{Kind}
 use Rattle.items.specs.Items.{acrossOf}
 use Rattle.items.specs.Around.{acrossAll, across-more}

@@ -1,6 +1,6 @@
 // The line list of a graph: its edges as nodes, and a pair for each two edges at a node.
 ghost use mathlib.Core.Path.{_≡_};
-ghost use Rattle.graph.specs.CheckLaws.{Passed};
+ghost use Rattle.graph.specs.Check.{Passed};
 ghost use Rattle.line_graph.specs.LineReport.{reportOfLineList};
 ghost use Rattle.line_graph.specs.LineList.{lineGraph};
 use graph::Checked;

@@ -1,5 +1,4 @@
 -- The theory of lists of native numbers: tests, membership, searching, parts.
-pub mod Tests
 pub mod Member
 pub mod Search
 pub mod Parts

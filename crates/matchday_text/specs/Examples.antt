@@ -1,21 +1,12 @@
 -- Texts worked out: numbers, a refusal, and the paper's whole example.
-use mathlib.Core.Path.{_≡_, refl, ap, _∙_}
+use mathlib.Core.Path.{_≡_, refl}
 use mathlib.Core.List.{List, [], _∷_, _++_}
-use mathlib.Core.Option.{bind}
 use Prim.Native.Nat.{ℕ}
-use native.Mathlib.Omega.{arith}
-use lib.ListN.{replicate}
 use Rattle.graph.specs.Edges.{firstEnd, secondEnd}
-use Rattle.graph.specs.Color.{daysOf}
-use Rattle.graph.specs.Colored.{noColor, colorOf}
-use Rattle.graph_file.specs.File.{fileOf, fields, fieldsUpTo, graphOf}
+use Rattle.graph.specs.Colored.{colorOf}
 use Rattle.graph_file.specs.Layout.{graphBytes, fieldBytes, bytesOf, bytes16}
-use Rattle.graph_file.specs.LayoutLaws.{read-bytes}
-use Rattle.vizing.specs.Checks.{checks-pass}
-use Rattle.vizing.specs.Demand3Examples.{listP13, p13-admitted, p13-colors, runs}
-use Rattle.matchday_text.specs.Text.{digits, decimal, followed, line, edgeLine, edgeLines, daysText, refusedText, coloredText, fileText}
-use Rattle.matchday_text.specs.Bound.{accepts}
-use Rattle.matchday_text.specs.FileText.{file-text, no-file-text}
+use Rattle.vizing.specs.Demand3Examples.{listP13}
+use Rattle.matchday_text.specs.Text.{digits, decimal, followed, line, edgeLine, edgeLines, daysText, fileText}
 
 pub numbers :
     (decimal 0 ≡ 48 ∷ [])

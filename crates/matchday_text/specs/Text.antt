@@ -7,8 +7,8 @@ use lib.Dec.{ltb}
 use lib.ListN.{replicate}
 use Rattle.graph.specs.Report.{Report, accepted, refused}
 use Rattle.graph.specs.Edges.{edgeCount, firstEnd, secondEnd}
-use Rattle.graph.specs.Color.{Outcome}
-use Rattle.graph.specs.Colored.{noColor, colorOf}
+use Rattle.graph.specs.Color.{Outcome, noColor}
+use Rattle.graph.specs.Colored.{colorOf}
 use Rattle.graph_file.specs.File.{fileOf}
 use Rattle.vizing.specs.MisraGries.{misraGries}
 

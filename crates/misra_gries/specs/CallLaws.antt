@@ -8,8 +8,8 @@ use lib.ListN.{length, take}
 use lib.Dec.{eqb}
 use borrow.Author.Tests.{eq-eqb, ne-eqb}
 use Rattle.graph.specs.Report.{Report, accepted, refused, number, reportOfChecked}
-use Rattle.graph.specs.Check.{firstRefusal, graphChecks, lengthCheck, checkGraph}
-use Rattle.graph.specs.CheckLaws.{Passed, passed, refused-first, passed-first, first-refuses, first-passes, answered-refused, answered-accepted, written-refused, written-accepted, graph-refused, graph-accepted}
+use Rattle.graph.specs.Check.{firstRefusal, graphChecks, lengthCheck, checkGraph, Passed}
+use Rattle.graph.proofs.CheckLaws.{passed, refused-first, passed-first, first-refuses, first-passes, answered-refused, answered-accepted, written-refused, written-accepted, graph-refused, graph-accepted}
 use Rattle.graph.specs.Edges.{edgeCount}
 use Rattle.graph.specs.Color.{colored, daysOf}
 use Rattle.graph.specs.declared.Refusal.{Refusal}
@@ -21,7 +21,8 @@ use Rattle.vizing.specs.Demand3.{Admitted}
 use Rattle.vizing.specs.Clause.{VizingColoring}
 use Rattle.vizing.specs.ClauseLaws.{misra-gries-clause}
 use Rattle.vizing.specs.Checks.{simple-admitted}
-use Rattle.simple_graph.specs.Simple.{checkSimple, simple-refused, simple-accepted}
+use Rattle.simple_graph.specs.Simple.{checkSimple}
+use Rattle.simple_graph.proofs.SimpleLaws.{simple-refused, simple-accepted}
 
 -- ---- the whole call
 

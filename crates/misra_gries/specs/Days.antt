@@ -9,11 +9,12 @@ use lib.ListN.{length, take}
 use lib.Seq.{length-take-le}
 use lib.Dec.{eqb, ltb}
 use borrow.Author.Tests.{lt-ltb, le-ltb, ltb-true, ltb-false, eq-eqb, ne-eqb}
-use Rattle.lists.specs.Tests.{by-test}
-use Rattle.graph.specs.Color.{daysOf, days-empty, days-colored}
-use Rattle.graph.specs.Colored.{noColor, colorOf}
+use Rattle.lists.proofs.Tests.{by-test}
+use Rattle.graph.specs.Color.{daysOf, noColor}
+use Rattle.graph.proofs.ColorLaws.{days-empty, days-colored}
+use Rattle.graph.specs.Colored.{colorOf}
 use Rattle.vizing.specs.MisraGries.{greatestColor}
-use Rattle.graph.specs.ColoredLaws.{color-take}
+use Rattle.graph.proofs.ColoredLaws.{color-take}
 
 -- An uncoloured place does not count, a coloured one does.
 greatest-uncolored : (c : ℕ) (cs : List ℕ) → c ≡ noColor → greatestColor (c ∷ cs) ≡ greatestColor cs

@@ -5,7 +5,7 @@ use mathlib.Core.Logic.{_≢_}
 use mathlib.Core.List.{List, [], _∷_}
 use lib.ListN.{length, getD}
 use Rattle.graph.specs.Edges.{firstEnd, secondEnd, edgesAt}
-use Rattle.graph.specs.Colored.{noColor}
+use Rattle.graph.specs.Color.{noColor}
 use Rattle.vizing.specs.MisraGries.{isFree, growFan}
 use Rattle.edge_table.specs.EdgeTable.{isEmpty}
 

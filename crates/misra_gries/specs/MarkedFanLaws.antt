@@ -11,13 +11,14 @@ use lib.ListN.{length, getD, set, take, drop, length-set, length-append, take-ap
 use lib.Seq.{take-suc-set, length-take-le, getD-set-same, getD-set-other}
 use lib.Dec.{eqb}
 use borrow.Author.Tests.{eq-eqb, ne-eqb}
-use Rattle.lists.specs.Tests.{by-test, dec-eq}
+use Rattle.lists.proofs.Tests.{by-test, dec-eq}
 use Rattle.lists.specs.Member.{Mem, elem}
 use Rattle.graph.specs.Edges.{firstEnd, secondEnd, farEnd, edgesAt, degree}
-use Rattle.graph.specs.EdgeLaws.{far-first, edge-at, at-edge}
-use Rattle.graph.specs.Colored.{noColor, colorOf, isColored}
+use Rattle.graph.proofs.EdgeLaws.{far-first, edge-at, at-edge}
+use Rattle.graph.specs.Color.{noColor}
+use Rattle.graph.specs.Colored.{colorOf, isColored}
 use Rattle.vizing.specs.MisraGries.{isFree, joins, firstJoining, growFan}
-use Rattle.graph.specs.ColoredLaws.{is-colored-true}
+use Rattle.graph.proofs.ColoredLaws.{is-colored-true}
 use Rattle.vizing.specs.DefinitionLaws.{first-joining-some}
 use Rattle.vizing.specs.Simple.{Incident}
 use Rattle.vizing.specs.Fan.{fan-at}

@@ -8,11 +8,11 @@ use native.Mathlib.Numerals.{add-one}
 use lib.ListN.{length, getD, take, replicate, length-replicate}
 use lib.Dec.{ltb, eqb}
 use borrow.Author.Tests.{ltb-true, ltb-false}
-use Rattle.lists.specs.Tests.{by-test}
+use Rattle.lists.proofs.Tests.{by-test}
 use Rattle.graph.specs.Edges.{edgeCount}
-use Rattle.graph.specs.Color.{daysOf}
-use Rattle.graph.specs.StretchLaws.{Table}
-use Rattle.graph.specs.Colored.{noColor, colorOf}
+use Rattle.graph.specs.Color.{daysOf, noColor}
+use Rattle.graph.specs.Stretch.{Table}
+use Rattle.graph.specs.Colored.{colorOf}
 use Rattle.vizing.specs.MisraGries.{greatestColor, step, stepHeld, heldAfter, held, find}
 use Rattle.vizing.specs.Demand3.{Admitted, maxDegree, degree-max, max-degree-bound}
 use Rattle.vizing.specs.Step.{Invariant}

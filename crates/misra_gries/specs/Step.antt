@@ -7,8 +7,8 @@ use mathlib.Core.Bool.{cond}
 use lib.ListN.{length, getD}
 use lib.Dec.{eqb}
 use Rattle.graph.specs.Edges.{edgeCount, firstEnd, secondEnd}
-use Rattle.graph.specs.StretchLaws.{Table}
-use Rattle.graph.specs.Colored.{noColor}
+use Rattle.graph.specs.Stretch.{Table}
+use Rattle.graph.specs.Color.{noColor}
 use Rattle.vizing.specs.MisraGries.{path, Found, find, step}
 use Rattle.vizing.specs.Demand3.{Admitted, maxDegree}
 use Rattle.vizing.specs.Step.{Invariant}

@@ -12,7 +12,7 @@ use Rattle.graph.specs.Edges.{edgeCount, firstEnd, secondEnd, farEnd, edgesAt, 
 use Rattle.graph.specs.Stretch.{stretch}
 use Rattle.vizing.specs.SimpleDegree.{degree-below}
 use Rattle.misra_gries.specs.MarkedFan.{FanReady, fanOf}
-use Rattle.graph.specs.EdgeLaws.{far-first}
+use Rattle.graph.proofs.EdgeLaws.{far-first}
 use Rattle.graph.specs.Colored.{smallestFreeAt}
 use Rattle.vizing.specs.MisraGries.{lastFarEnd, path, exchange, rotate, store, Found, find, step}
 use Rattle.vizing.specs.Store.{exchange-none}

@@ -7,7 +7,7 @@ ghost use lib.ListN.{length, take};
 ghost use Rattle.graph.specs.Report.{reportOfColoring};
 ghost use Rattle.graph.specs.Edges.{edgeCount};
 ghost use Rattle.graph.specs.Color.{daysOf};
-ghost use Rattle.graph.specs.StretchLaws.{Table};
+ghost use Rattle.graph.specs.Stretch.{Table};
 ghost use Rattle.vizing.specs.MisraGries.{held, misraGries};
 ghost use Rattle.vizing.specs.Demand3.{Admitted};
 ghost use Rattle.vizing.specs.Clause.{VizingColoring};

@@ -5,14 +5,16 @@ use mathlib.Core.Logic.{inl, inr, _≢_}
 use mathlib.Core.List.{List, [], _∷_}
 use native.Mathlib.Omega.{arith}
 use lib.ListN.{length, getD}
-use Rattle.lists.specs.Tests.{dec-eq}
-use Rattle.lists.specs.Member.{Mem, mem-getD}
-use Rattle.lists.specs.Different.{count, count-append}
+use Rattle.lists.proofs.Tests.{dec-eq}
+use Rattle.lists.specs.Member.{Mem}
+use Rattle.lists.proofs.MemberLaws.{mem-getD}
+use Rattle.lists.specs.Different.{count}
+use Rattle.lists.proofs.DifferentLaws.{count-append}
 use Rattle.graph.specs.Edges.{edgeCount, firstEnd, secondEnd, edgesAt, neighbors}
-use Rattle.graph.specs.EdgeLaws.{edge-at}
-use Rattle.graph.specs.NeighborLaws.{neighbors-far-ends}
+use Rattle.graph.proofs.EdgeLaws.{edge-at}
+use Rattle.graph.proofs.NeighborLaws.{neighbors-far-ends}
 use Rattle.graph.specs.Stretch.{stretch}
-use Rattle.line_graph.specs.LineNeighborLaws.{line-neighbor-times, line-neighbor-times-loop}
+use Rattle.line_graph.proofs.LineNeighborLaws.{line-neighbor-times, line-neighbor-times-loop}
 use Rattle.items.specs.declared.Kind.{Kind}
 use Rattle.items.specs.declared.Kind.the-variants.{Nodes, Edges}
 use Rattle.items.specs.Items.{firstNode, secondNode, acrossOf, neighborsOf, Tabled, first-inside, second-inside, across-inside}

@@ -9,12 +9,13 @@ use native.Mathlib.Nat.{not-suc-le-zero}
 use lib.ListN.{length, getD}
 use lib.Dec.{eqb, ltb}
 use borrow.Author.Tests.{lt-ltb, le-ltb, eq-eqb, ne-eqb}
-use Rattle.lists.specs.Tests.{by-test, dec-eq, and-false, true-or}
+use Rattle.lists.proofs.Tests.{by-test, dec-eq, and-false, true-or}
 use Rattle.lists.specs.Member.{Mem}
-use Rattle.graph.specs.Colored.{noColor, colorOf}
-use Rattle.graph.specs.ColoredLaws.{color-read}
+use Rattle.graph.specs.Color.{noColor}
+use Rattle.graph.specs.Colored.{colorOf}
+use Rattle.graph.proofs.ColoredLaws.{color-read}
 use Rattle.greedy.specs.Turn.{uncolored}
-use Rattle.greedy.specs.UncoloredLaws.{last-colored, last-uncolored, uncolored-member}
+use Rattle.greedy.proofs.UncoloredLaws.{last-colored, last-uncolored, uncolored-member}
 use Rattle.greedy.specs.Saturation.{greater, greatest}
 use Rattle.graph.specs.declared.NodeIndex.{NodeIndex}
 use Rattle.saturation.specs.declared.turns.Choice.{Choice}

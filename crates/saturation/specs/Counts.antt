@@ -6,11 +6,14 @@ use mathlib.Core.List.{List, [], _∷_, map}
 use native.Mathlib.Omega.{arith}
 use lib.ListN.{length, getD, set, length-map}
 use borrow.Author.Tests.{eq-eqb}
-use Rattle.lists.specs.Tests.{by-test, dec-eq}
-use Rattle.lists.specs.Member.{Mem, dec-mem, mem-map, map-mem, pigeonhole}
-use Rattle.lists.specs.Different.{different, distinct, distinct-nodup, distinct-member, different-same, different-new, count, count-here, count-there, count-none}
-use Rattle.graph.specs.Colored.{noColor, colorOf, isColored, coloredAmong}
-use Rattle.graph.specs.ColoredLaws.{color-set-same, color-set-other, is-colored-true, is-colored-false, colored-true, uncolored-false, colored-edge, edge-colored, colored-edges-length}
+use Rattle.lists.proofs.Tests.{by-test, dec-eq}
+use Rattle.lists.specs.Member.{Mem}
+use Rattle.lists.proofs.MemberLaws.{dec-mem, mem-map, map-mem, pigeonhole}
+use Rattle.lists.specs.Different.{different, distinct, count}
+use Rattle.lists.proofs.DifferentLaws.{distinct-nodup, distinct-member, different-same, different-new, count-here, count-there, count-none}
+use Rattle.graph.specs.Color.{noColor}
+use Rattle.graph.specs.Colored.{colorOf, isColored, coloredAmong}
+use Rattle.graph.proofs.ColoredLaws.{color-set-same, color-set-other, is-colored-true, is-colored-false, colored-true, uncolored-false, colored-edge, edge-colored, colored-edges-length}
 use Rattle.greedy.specs.Saturation.{uncoloredAmong, saturation, uncoloredNeighbors}
 
 -- Each item without a colour has its two counts: the different colours on its neighbours, and the neighbours that still wait for one.

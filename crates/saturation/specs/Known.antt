@@ -7,13 +7,15 @@ use mathlib.Core.Bool.{Bool, true, false, _||_, cond}
 use native.Mathlib.Omega.{arith}
 use native.Mathlib.Decide.{decLt}
 use lib.ListN.{length, getD}
-use Rattle.lists.specs.Tests.{by-test, true-or}
-use Rattle.lists.specs.Member.{Mem, elem, elem-false, mem-getD}
+use Rattle.lists.proofs.Tests.{by-test, true-or}
+use Rattle.lists.specs.Member.{Mem, elem}
+use Rattle.lists.proofs.MemberLaws.{elem-false, mem-getD}
 use Rattle.graph.specs.Edges.{edgeCount}
-use Rattle.graph.specs.EdgeLaws.{at-edge, edge-at}
+use Rattle.graph.proofs.EdgeLaws.{at-edge, edge-at}
 use Rattle.graph.specs.Stretch.{stretch}
-use Rattle.graph.specs.Colored.{noColor, colorOf}
-use Rattle.graph.specs.ColoredLaws.{color-read, color-outside}
+use Rattle.graph.specs.Color.{noColor}
+use Rattle.graph.specs.Colored.{colorOf}
+use Rattle.graph.proofs.ColoredLaws.{color-read, color-outside}
 use Rattle.items.specs.declared.Kind.{Kind}
 use Rattle.items.specs.Items.{firstNode, secondNode, acrossOf, neighborsOf, Sized, Tabled, items-few, across-inside, first-inside, second-inside, NodeOf, neighbor-leading, leading-neighbor}
 use Rattle.items.specs.Standing.{stands-item, item-stands}

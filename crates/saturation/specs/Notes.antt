@@ -6,11 +6,13 @@ use mathlib.Core.List.{List, [], _∷_, _++_, map}
 use native.Mathlib.Omega.{arith}
 use lib.ListN.{length, getD, take, drop, set, take-append-drop}
 use lib.Seq.{drop-cons, take-length, getD-set-same, getD-set-other}
-use Rattle.lists.specs.Member.{map-append}
-use Rattle.lists.specs.Tests.{dec-eq}
-use Rattle.lists.specs.Different.{count, count-append, count-here, count-there, count-none}
-use Rattle.graph.specs.Colored.{noColor, colorOf}
-use Rattle.graph.specs.ColoredLaws.{color-read}
+use Rattle.lists.proofs.MemberLaws.{map-append}
+use Rattle.lists.proofs.Tests.{dec-eq}
+use Rattle.lists.specs.Different.{count}
+use Rattle.lists.proofs.DifferentLaws.{count-append, count-here, count-there, count-none}
+use Rattle.graph.specs.Color.{noColor}
+use Rattle.graph.specs.Colored.{colorOf}
+use Rattle.graph.proofs.ColoredLaws.{color-read}
 use Rattle.items.specs.declared.Kind.{Kind}
 use Rattle.items.specs.Items.{acrossOf}
 use Rattle.items.specs.Around.{acrossAll, across-more}

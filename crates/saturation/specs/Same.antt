@@ -4,17 +4,17 @@ use mathlib.Core.Path.{_≡_, refl, sym, ap, subst, _∙_}
 use mathlib.Core.Logic.{inl, inr}
 use mathlib.Core.List.{List, [], _∷_}
 use lib.ListN.{length}
-use Rattle.lists.specs.Tests.{by-test}
+use Rattle.lists.proofs.Tests.{by-test}
 use Rattle.lists.specs.Member.{Mem}
-use Rattle.graph.specs.CheckLaws.{Passed}
+use Rattle.graph.specs.Check.{Passed}
 use Rattle.graph.specs.Edges.{edgeCount, neighbors}
-use Rattle.graph.specs.StretchLaws.{Table}
+use Rattle.graph.specs.Stretch.{Table}
 use Rattle.greedy.specs.Call.{edgeNeighbors}
-use Rattle.greedy.specs.GreedyLaws.{edge-neighbors}
+use Rattle.greedy.proofs.GreedyLaws.{edge-neighbors}
 use Rattle.greedy.specs.Turn.{uncolored, colorItem}
-use Rattle.greedy.specs.UncoloredLaws.{uncolored-member}
+use Rattle.greedy.proofs.UncoloredLaws.{uncolored-member}
 use Rattle.greedy.specs.Saturation.{saturation, uncoloredNeighbors, greater, greatest, saturationFrom, saturationColors}
-use Rattle.greedy.specs.SaturationLaws.{greatest-member}
+use Rattle.greedy.proofs.SaturationLaws.{greatest-member}
 use Rattle.items.specs.declared.Kind.{Kind}
 use Rattle.items.specs.declared.Kind.the-variants.{Nodes, Edges}
 use Rattle.items.specs.Items.{itemsOf, neighborsOf, Tabled}

@@ -2,7 +2,7 @@
 ghost use mathlib.Core.Path.{_≡_};
 ghost use lib.ListN.{length};
 ghost use Rattle.graph.specs.Report.{reportOfColoring};
-ghost use Rattle.graph.specs.CheckLaws.{Passed};
+ghost use Rattle.graph.specs.Check.{Passed};
 ghost use Rattle.graph.specs.Color.{daysOf};
 ghost use Rattle.greedy.specs.Saturation.{saturationColors};
 ghost use Rattle.greedy.specs.Call.{greedyNodes, greedyEdges};

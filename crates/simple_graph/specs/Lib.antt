@@ -1,4 +1,3 @@
 -- The checks for loops and double edges: the search for each, and the call's answers.
-pub mod Loops
 pub mod DoubleEdges
 pub mod Simple

@@ -1,66 +1,11 @@
 -- The graph checks and then those for loops and double edges: one law for each answer, and what the answer tells a caller.
 use Prim.Native.Nat.{ℕ}
-use mathlib.Core.Path.{_≡_, sym, ap, _∙_}
-use mathlib.Core.List.{List, [], _∷_, _++_}
-use mathlib.Core.Bool.{Bool, true, false}
-use mathlib.Core.Option.{none, some}
-use Rattle.graph.specs.Report.{Report, accepted, refused, number, reportOfChecked}
-use Rattle.graph.specs.Check.{Check, _gives_, firstRefusal, answered, graphChecks, checkGraph}
-use Rattle.graph.specs.CheckLaws.{Passed, passed, refused-first, passed-first, passed-both, first-refuses, first-passes, all-passed, answered-refused, answered-accepted, checked-refused, checked-accepted, graph-refused, graph-accepted}
+use mathlib.Core.List.{List, _++_}
+use Rattle.graph.specs.Report.{Report}
+use Rattle.graph.specs.Check.{answered, graphChecks}
 use Rattle.graph.specs.Edges.{edgeCount}
-use Rattle.graph.specs.declared.Refusal.{Refusal}
-use Rattle.graph.specs.declared.Graph.{Graph}
-use Rattle.graph.specs.declared.Checked.{Checked}
-use Rattle.graph.specs.declared.Checked.the-variants as C
-use Rattle.vizing.specs.MisraGries.{hasLoop, hasDoubleEdge, simpleChecks}
+use Rattle.vizing.specs.MisraGries.{simpleChecks}
 
 -- The graph checks, then "6 if a loop exists, 7 if a double edge exists": they report n and m.
 unfoldable pub checkSimple : ℕ → List ℕ → Report (ℕ × ℕ)
 checkSimple n ends = answered (graphChecks n ends ++ simpleChecks ends) (n, edgeCount ends)
-
--- ---- one law for each answer
-
-module _ (n : ℕ) (ends : List ℕ) where
-  abbrev checks : List Check
-  checks = graphChecks n ends ++ simpleChecks ends
-
-  refuses : (k : ℕ) → firstRefusal checks ≡ some k → refused k ≡ checkSimple n ends
-  unfolding checkSimple
-  refuses k e = answered-refused checks k _ e
-
-  pub graph-no : (c : Checked) (r : Refusal) → reportOfChecked c ≡ checkGraph n ends → c ≡ C.Refused r → refused (number r) ≡ checkSimple n ends
-  graph-no c r e p = refuses (number r) (refused-first (graphChecks n ends) (simpleChecks ends) (number r) (graph-refused n ends c r e p))
-
-  module _ (c : Checked) (g : Graph) (e : reportOfChecked c ≡ checkGraph n ends) (p : c ≡ C.Accepted g) where
-    pub graph-yes : Passed n ends
-    graph-yes = passed n ends (graph-accepted n ends c g e p .0)
-
-    after-graph : firstRefusal checks ≡ firstRefusal (simpleChecks ends)
-    after-graph = passed-first (graphChecks n ends) (simpleChecks ends) (graph-accepted n ends c g e p .0)
-
-    pub loop-no : (b : Bool) → b ≡ hasLoop ends (edgeCount ends) → b ≡ true → refused 6 ≡ checkSimple n ends
-    loop-no b f h = refuses 6 (after-graph ∙ first-refuses (hasLoop ends (edgeCount ends)) 6 _ (sym f ∙ h))
-
-    after-loop : (b : Bool) → b ≡ hasLoop ends (edgeCount ends) → b ≡ false → firstRefusal checks ≡ firstRefusal ((hasDoubleEdge ends (edgeCount ends) gives 7) ∷ [])
-    after-loop b f h = after-graph ∙ first-passes (hasLoop ends (edgeCount ends)) 6 _ (sym f ∙ h)
-
-    pub double-no : (b d : Bool) → b ≡ hasLoop ends (edgeCount ends) → b ≡ false → d ≡ hasDoubleEdge ends (edgeCount ends) → d ≡ true → refused 7 ≡ checkSimple n ends
-    double-no b d f h g k = refuses 7 (after-loop b f h ∙ first-refuses (hasDoubleEdge ends (edgeCount ends)) 7 [] (sym g ∙ k))
-
-    pub simple-yes : (b d : Bool) → b ≡ hasLoop ends (edgeCount ends) → b ≡ false → d ≡ hasDoubleEdge ends (edgeCount ends) → d ≡ false → accepted (g .nodes, g .edges) ≡ checkSimple n ends
-    unfolding checkSimple
-    simple-yes b d f h j k =
-        let q = graph-accepted n ends c g e p in
-        rw (q .1, q .2) (answered-accepted checks (n, edgeCount ends) (after-loop b f h ∙ (first-passes (hasDoubleEdge ends (edgeCount ends)) 7 [] (sym j ∙ k) ∙ all-passed)))
-
--- ---- what the answer tells
-
-module _ (n : ℕ) (ends : List ℕ) (c : Checked) (e : reportOfChecked c ≡ checkSimple n ends) where
-  -- After graph checks that passed, a refusal is 6 or 7.
-  pub simple-refused : (r : Refusal) → firstRefusal (graphChecks n ends) ≡ none → c ≡ C.Refused r → firstRefusal (simpleChecks ends) ≡ some (number r)
-  unfolding checkSimple
-  simple-refused r g p = sym (passed-first (graphChecks n ends) (simpleChecks ends) g) ∙ checked-refused (graphChecks n ends ++ simpleChecks ends) (n, edgeCount ends) c r e p
-
-  pub simple-accepted : (g : Graph) → c ≡ C.Accepted g → firstRefusal (simpleChecks ends) ≡ none
-  unfolding checkSimple
-  simple-accepted g p = passed-both (graphChecks n ends) (simpleChecks ends) (checked-accepted (graphChecks n ends ++ simpleChecks ends) (n, edgeCount ends) c g e p .0) .1

@@ -1,5 +1,4 @@
 -- Examples as rows, held against the definition by computation: P1 to P5 of the proof sheet, and a closed walk of even length.
-use Prim.Native.Nat.{ℕ}
 use mathlib.Core.Bool.{true, xor}
 use mathlib.Core.List.{List, [], _∷_}
 use mathlib.Core.Path.{_≡_, refl}

@@ -4,6 +4,4 @@ pub mod Walk
 pub mod Sides
 pub mod TwoColor
 pub mod Examples
-pub mod SideLaws
 pub mod Components
-pub mod TwoColorLaws

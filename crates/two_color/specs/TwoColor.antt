@@ -5,8 +5,7 @@ use mathlib.Core.Logic.{_⊎_, _≢_}
 use mathlib.Core.List.{List, [], _∷_, _++_}
 use lib.ListN.{length, getD}
 use Rattle.graph.specs.Report.{Report, accepted, refused, Accepted}
-use Rattle.graph.specs.Check.{Check, _gives_, graphChecks, lengthCheck}
-use Rattle.graph.specs.CheckLaws.{Passed}
+use Rattle.graph.specs.Check.{Check, _gives_, graphChecks, lengthCheck, Passed}
 use Rattle.graph.specs.Edges.{edgeCount, firstEnd, secondEnd}
 use Rattle.graph.specs.Color.{Outcome, colored}
 use Rattle.two_color.specs.Walk.{Walk, OddClosedWalk}

@@ -3,7 +3,7 @@ ghost use mathlib.Core.Path.{_≡_};
 ghost use mathlib.Core.Bool.{Bool, false, cond};
 ghost use Prim.Native.Nat.{ℕ, _-_, _≤_, _<_};
 ghost use lib.ListN.{length, getD, replicate};
-ghost use Rattle.graph.specs.CheckLaws.{Passed};
+ghost use Rattle.graph.specs.Check.{Passed};
 ghost use Rattle.graph.specs.Edges.{edgeCount};
 ghost use Rattle.two_color.specs.Components.{Forest, Holds, Joined, Finds, Joins, Taken, Sided, NodesColored};
 use graph::NodeIndex;

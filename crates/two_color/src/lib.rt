@@ -3,7 +3,7 @@ ghost use mathlib.Core.Path.{_≡_};
 ghost use Prim.Native.Nat.{ℕ, _≤_, _<_};
 ghost use lib.ListN.{length, getD};
 ghost use Rattle.graph.specs.Report.{reportOfColoring};
-ghost use Rattle.graph.specs.CheckLaws.{Passed};
+ghost use Rattle.graph.specs.Check.{Passed};
 ghost use Rattle.two_color.specs.TwoColor.{twoColor, sidesOutcome, Bipartition};
 use graph::Checked;
 use graph::Coloring;

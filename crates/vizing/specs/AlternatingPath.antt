@@ -4,9 +4,10 @@ use mathlib.Core.Path.{_≡_, refl, sym, ap, subst}
 use mathlib.Core.Logic.{_⊎_, inl, inr, _≢_}
 use mathlib.Core.List.{List, [], _∷_}
 use borrow.Author.Tests.{eq-eqb, ne-eqb}
-use Rattle.lists.specs.Tests.{dec-eq}
-use Rattle.lists.specs.Member.{Mem, dec-mem}
-use Rattle.graph.specs.Colored.{noColor}
+use Rattle.lists.proofs.Tests.{dec-eq}
+use Rattle.lists.specs.Member.{Mem}
+use Rattle.lists.proofs.MemberLaws.{dec-mem}
+use Rattle.graph.specs.Color.{noColor}
 use Rattle.vizing.specs.MisraGries.{swap}
 use Rattle.vizing.specs.Coloring.{Graph, Free, Proper}
 

@@ -9,10 +9,10 @@ use native.Mathlib.Omega.{arith}
 use lib.ListN.{length, getD, take}
 use lib.Dec.{eqb}
 use borrow.Author.Tests.{eq-eqb, eqb-true, not-false}
-use Rattle.lists.specs.Tests.{dec-eq}
+use Rattle.lists.proofs.Tests.{dec-eq}
 use Rattle.graph.specs.Edges.{edgeCount, firstEnd, secondEnd}
-use Rattle.graph.specs.Check.{Check, _gives_, firstRefusal, graphChecks, lengthCheck}
-use Rattle.graph.specs.CheckLaws.{Passed, passed, passes, passed-inside, passed-first, passed-both, passed-one, first-passes, all-passed}
+use Rattle.graph.specs.Check.{Check, _gives_, firstRefusal, graphChecks, lengthCheck, Passed}
+use Rattle.graph.proofs.CheckLaws.{passed, passes, passed-inside, passed-first, passed-both, passed-one, first-passes, all-passed}
 use Rattle.vizing.specs.MisraGries.{hasLoop, hasDoubleEdge, simpleChecks, misraGriesChecks}
 use Rattle.vizing.specs.FirstEdges.{first-end-take, second-end-take, edge-count-take}
 use Rattle.vizing.specs.Simple.{SameEnds, simple-no-loop, simple-no-double, passed-simple}

@@ -5,7 +5,7 @@ use mathlib.Core.List.{List}
 use lib.ListN.{length, getD, take}
 use Rattle.graph.specs.Report.{Report, accepted, Accepted}
 use Rattle.graph.specs.Edges.{edgeCount}
-use Rattle.graph.specs.Colored.{noColor}
+use Rattle.graph.specs.Color.{noColor}
 use Rattle.vizing.specs.MisraGries.{held}
 use Rattle.vizing.specs.Demand3.{Admitted, Accurate, Call}
 

@@ -10,9 +10,8 @@ use lib.Seq.{length-take-le}
 use Rattle.graph.specs.Edges.{edgeCount}
 use Rattle.graph.specs.Report.{accepted}
 use Rattle.graph.specs.Check.{firstRefusal}
-use Rattle.graph.specs.CheckLaws.{answered-refused}
-use Rattle.graph.specs.Color.{daysOf, colored}
-use Rattle.graph.specs.Colored.{noColor}
+use Rattle.graph.proofs.CheckLaws.{answered-refused}
+use Rattle.graph.specs.Color.{daysOf, colored, noColor}
 use Rattle.vizing.specs.MisraGries.{held, misraGriesChecks, misraGries}
 use Rattle.vizing.specs.LaterEdges.{held-length}
 use Rattle.vizing.specs.FirstEdges.{edge-count-take}

@@ -2,8 +2,8 @@
 use Prim.Native.Nat.{ℕ}
 use mathlib.Core.Path.{_≡_, ap, subst}
 use mathlib.Core.Logic.{_⊎_, inl, inr, _≢_}
-use Rattle.lists.specs.Tests.{dec-eq}
-use Rattle.graph.specs.Colored.{noColor}
+use Rattle.lists.proofs.Tests.{dec-eq}
+use Rattle.graph.specs.Color.{noColor}
 
 -- A simple graph: `At k v` says that edge k stands at node v, `far k v` is the other end of edge k.
 pub record Graph (At : ℕ → ℕ → Type 0) (far : ℕ → ℕ → ℕ) : Type 0 where

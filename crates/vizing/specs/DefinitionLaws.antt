@@ -9,10 +9,12 @@ use native.Mathlib.Omega.{arith}
 use lib.ListN.{length, set, length-set}
 use lib.Dec.{eqb}
 use borrow.Author.Tests.{eqb-true, eqb-false, not-true}
-use Rattle.lists.specs.Tests.{by-test, and-true, true-and}
-use Rattle.lists.specs.Member.{Mem, elem, elem-false, not-mem-elem}
-use Rattle.graph.specs.ColoredLaws.{NoneHas, color-set-other, is-colored-true, colored-true, smallest-none-has}
-use Rattle.graph.specs.Colored.{noColor, colorOf, isColored, smallestFreeAt}
+use Rattle.lists.proofs.Tests.{by-test, and-true, true-and}
+use Rattle.lists.specs.Member.{Mem, elem}
+use Rattle.lists.proofs.MemberLaws.{elem-false, not-mem-elem}
+use Rattle.graph.proofs.ColoredLaws.{NoneHas, color-set-other, is-colored-true, colored-true, smallest-none-has}
+use Rattle.graph.specs.Color.{noColor}
+use Rattle.graph.specs.Colored.{colorOf, isColored, smallestFreeAt}
 use Rattle.vizing.specs.MisraGries.{edgeOfColor, isFree, store, joins, firstJoining}
 
 -- ---- options

@@ -7,12 +7,12 @@ use native.Mathlib.Omega.{arith}
 use native.Mathlib.Nat.{not-suc-le-zero}
 use native.Mathlib.Decide.{decLt}
 use lib.ListN.{length, getD, take}
-use Rattle.lists.specs.Tests.{dec-eq}
+use Rattle.lists.proofs.Tests.{dec-eq}
 use Rattle.graph.specs.Edges.{edgeCount, firstEnd, secondEnd, degree}
-use Rattle.graph.specs.CountLaws.{degree-bound}
+use Rattle.graph.proofs.CountLaws.{degree-bound}
 use Rattle.graph.specs.Report.{Accepted}
-use Rattle.graph.specs.Color.{Outcome}
-use Rattle.graph.specs.Colored.{noColor, colorOf}
+use Rattle.graph.specs.Color.{Outcome, noColor}
+use Rattle.graph.specs.Colored.{colorOf}
 use Rattle.vizing.specs.Simple.{Simple, Incident}
 
 -- ---- D

@@ -9,8 +9,8 @@ use Rattle.lists.specs.Member.{elem}
 use Rattle.lists.specs.Search.{allBelow, any}
 use Rattle.graph.specs.Edges.{firstEnd, secondEnd, isLoop, farEnd, secondAt, firstEdges, secondEdges, edgesAt, degree}
 use Rattle.graph.specs.Check.{firstRefusal, graphChecks}
-use Rattle.graph.specs.Color.{smallestFrom, smallestFree}
-use Rattle.graph.specs.Colored.{noColor, colorOf, isColored, coloredAmong, smallestFreeAt}
+use Rattle.graph.specs.Color.{smallestFrom, smallestFree, noColor}
+use Rattle.graph.specs.Colored.{colorOf, isColored, coloredAmong, smallestFreeAt}
 use Rattle.vizing.specs.MisraGries.{edgeOfColor, isFree, store, joins, firstJoining, growFan, lastFarEnd, path, swap, exchange, placesTo, rotate, find, step, stepHeld, heldAfter, held, hasLoop, sameEnds, hasDoubleEdge, misraGriesChecks, misraGries}
 use Rattle.vizing.specs.Simple.{Incident}
 use Rattle.vizing.specs.Demand3.{maxDegree, Admitted}

@@ -3,12 +3,11 @@ use Prim.Native.Nat.{ℕ}
 use mathlib.Core.Path.{_≡_, refl, sym, subst}
 use mathlib.Core.Logic.{_⊎_, inl, inr, _≢_}
 use mathlib.Core.List.{List, [], _∷_}
-use Rattle.lists.specs.Tests.{dec-eq}
+use Rattle.lists.proofs.Tests.{dec-eq}
 use Rattle.lists.specs.Member.{Mem, Nodup}
-use Rattle.graph.specs.Colored.{noColor}
+use Rattle.graph.specs.Color.{noColor}
 use Rattle.vizing.specs.Coloring.{Free}
-use Rattle.vizing.specs.AlternatingPath.{swap-other, Meets, Exchanged, ExchangedAt, UnchangedAt}
-use Rattle.vizing.specs.AlternatingPath.{starts-with-d, free-at-end, at-node, at-start, free-exchanged, free-unchanged, exchange-colored}
+use Rattle.vizing.specs.AlternatingPath.{swap-other, Meets, Exchanged, ExchangedAt, UnchangedAt, starts-with-d, free-at-end, at-node, at-start, free-exchanged, free-unchanged, exchange-colored}
 
 -- The last of these edges, or e if there is none.
 unfoldable pub lastEdge : ℕ → List ℕ → ℕ

@@ -5,13 +5,15 @@ use mathlib.Core.Logic.{_⊎_, inl, inr, _≢_}
 use mathlib.Core.List.{List, [], _∷_}
 use native.Mathlib.Omega.{arith}
 use lib.ListN.{length}
-use Rattle.lists.specs.Tests.{by-test}
-use Rattle.lists.specs.Member.{Mem, Nodup, dec-mem, pigeonhole}
+use Rattle.lists.proofs.Tests.{by-test}
+use Rattle.lists.specs.Member.{Mem, Nodup}
+use Rattle.lists.proofs.MemberLaws.{dec-mem, pigeonhole}
 use Rattle.graph.specs.Edges.{farEnd, edgesAt, degree}
-use Rattle.graph.specs.EdgeLaws.{edge-at, at-edge}
-use Rattle.graph.specs.Colored.{noColor, colorOf}
+use Rattle.graph.proofs.EdgeLaws.{edge-at, at-edge}
+use Rattle.graph.specs.Color.{noColor}
+use Rattle.graph.specs.Colored.{colorOf}
 use Rattle.vizing.specs.MisraGries.{isFree, firstJoining, growFan, lastFarEnd, placesTo}
-use Rattle.graph.specs.ColoredLaws.{NoneHas}
+use Rattle.graph.proofs.ColoredLaws.{NoneHas}
 use Rattle.vizing.specs.DefinitionLaws.{some-or-none, is-free-true, is-free-false, first-joining-some, first-joining-none}
 use Rattle.vizing.specs.Coloring.{Free}
 use Rattle.vizing.specs.Simple.{Incident}

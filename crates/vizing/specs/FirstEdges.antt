@@ -9,13 +9,13 @@ use lib.ListN.{length, take}
 use lib.Seq.{getD-take, length-take-le}
 use lib.Dec.{eqb}
 use borrow.Author.Tests.{eqb-true}
-use Rattle.lists.specs.Tests.{by-test}
+use Rattle.lists.proofs.Tests.{by-test}
 use Rattle.lists.specs.Member.{Mem}
 use Rattle.graph.specs.Edges.{edgeCount, firstEnd, secondEnd, isLoop, farEnd, secondAt, firstEdges, secondEdges, edgesAt}
-use Rattle.graph.specs.Color.{smallestFree}
-use Rattle.graph.specs.Colored.{noColor, colorOf, isColored, coloredAmong, smallestFreeAt}
+use Rattle.graph.specs.Color.{smallestFree, noColor}
+use Rattle.graph.specs.Colored.{colorOf, isColored, coloredAmong, smallestFreeAt}
 use Rattle.vizing.specs.MisraGries.{edgeOfColor, isNone, isFree, joins, firstJoining, growFan, lastFarEnd, path, placesTo, find, step, Held, stepHeld, heldAfter, held}
-use Rattle.graph.specs.ColoredLaws.{is-colored-true, is-colored-false, colored-edges-append, colored-edges-keep}
+use Rattle.graph.proofs.ColoredLaws.{is-colored-true, is-colored-false, colored-edges-append, colored-edges-keep}
 use Rattle.vizing.specs.DefinitionLaws.{some-or-none, edge-of-color-some, false-joins, first-joining-some}
 use Rattle.vizing.specs.LaterEdges.{UncoloredFrom, colored-before, free-color, fan-before, exchanged-uncolored, held-length, held-uncolored}
 

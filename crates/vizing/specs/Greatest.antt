@@ -9,10 +9,12 @@ use native.Mathlib.Decide.{decLt}
 use lib.ListN.{length}
 use lib.Dec.{eqb, ltb}
 use borrow.Author.Tests.{eqb-false, ne-eqb, ltb-true, ltb-false, not-true}
-use Rattle.lists.specs.Tests.{by-test, and-true, true-and}
-use Rattle.lists.specs.Member.{Mem, Nodup, dec-mem}
+use Rattle.lists.proofs.Tests.{by-test, and-true, true-and}
+use Rattle.lists.specs.Member.{Mem, Nodup}
+use Rattle.lists.proofs.MemberLaws.{dec-mem}
 use Rattle.graph.specs.Edges.{firstEnd, secondEnd}
-use Rattle.graph.specs.Colored.{noColor, colorOf}
+use Rattle.graph.specs.Color.{noColor}
+use Rattle.graph.specs.Colored.{colorOf}
 use Rattle.vizing.specs.MisraGries.{greatestColor, Found, find, step}
 use Rattle.vizing.specs.Simple.{Simple}
 use Rattle.vizing.specs.AlternatingPath.{swap-left, swap-right, path-edge, Exchanged, starts-with-d, at-start, exchange-uncolored}

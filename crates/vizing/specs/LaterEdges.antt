@@ -6,13 +6,15 @@ use mathlib.Core.List.{List, [], _∷_, _++_, map}
 use native.Mathlib.Omega.{arith}
 use native.Mathlib.Decide.{decLt}
 use lib.ListN.{length, length-replicate}
-use Rattle.lists.specs.Tests.{by-test}
-use Rattle.lists.specs.Member.{Mem, Nodup, nodup-bound}
+use Rattle.lists.proofs.Tests.{by-test}
+use Rattle.lists.specs.Member.{Mem, Nodup}
+use Rattle.lists.proofs.MemberLaws.{nodup-bound}
 use Rattle.graph.specs.Edges.{firstEnd, secondEnd, farEnd, edgesAt}
-use Rattle.graph.specs.EdgeLaws.{edges-at-nodup}
-use Rattle.graph.specs.Colored.{noColor, colorOf, isColored, coloredAmong, smallestFreeAt}
+use Rattle.graph.proofs.EdgeLaws.{edges-at-nodup}
+use Rattle.graph.specs.Color.{noColor}
+use Rattle.graph.specs.Colored.{colorOf, isColored, coloredAmong, smallestFreeAt}
 use Rattle.vizing.specs.MisraGries.{edgeOfColor, isFree, store, firstJoining, growFan, lastFarEnd, path, swap, exchange, placesTo, rotate, find, step, stepHeld, heldAfter}
-use Rattle.graph.specs.ColoredLaws.{colored-inside, color-replicate, colored-edge, smallest-free-colored}
+use Rattle.graph.proofs.ColoredLaws.{colored-inside, color-replicate, colored-edge, smallest-free-colored}
 use Rattle.vizing.specs.DefinitionLaws.{some-or-none, edge-of-color-some, first-joining-some, length-store, color-store-other}
 
 -- The edges from k on have no colour.

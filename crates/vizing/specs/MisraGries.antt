@@ -9,8 +9,8 @@ use Rattle.lists.specs.Member.{elem}
 use Rattle.lists.specs.Search.{any}
 use Rattle.graph.specs.Edges.{edgeCount, firstEnd, secondEnd, isLoop, farEnd, edgesAt}
 use Rattle.graph.specs.Check.{Check, _gives_, graphChecks, lengthCheck}
-use Rattle.graph.specs.Color.{Outcome, colored}
-use Rattle.graph.specs.Colored.{noColor, colorOf, isColored, smallestFreeAt}
+use Rattle.graph.specs.Color.{Outcome, colored, noColor}
+use Rattle.graph.specs.Colored.{colorOf, isColored, smallestFreeAt}
 
 -- ---- colours in a working list
 

@@ -4,9 +4,10 @@ use mathlib.Core.Logic.{_≢_}
 use mathlib.Core.List.{List}
 use native.Mathlib.Omega.{arith}
 use Rattle.graph.specs.Edges.{edgesAt, degree}
-use Rattle.graph.specs.EdgeLaws.{at-edge}
-use Rattle.graph.specs.Colored.{noColor, colorOf, smallestFreeAt}
-use Rattle.graph.specs.ColoredLaws.{smallest-free-bound, smallest-none-has}
+use Rattle.graph.proofs.EdgeLaws.{at-edge}
+use Rattle.graph.specs.Color.{noColor}
+use Rattle.graph.specs.Colored.{colorOf, smallestFreeAt}
+use Rattle.graph.proofs.ColoredLaws.{smallest-free-bound, smallest-none-has}
 use Rattle.vizing.specs.Coloring.{Free}
 use Rattle.vizing.specs.Simple.{Incident}
 

@@ -5,10 +5,12 @@ use mathlib.Core.Logic.{_⊎_, inl, inr, _≢_}
 use mathlib.Core.List.{List, [], _∷_}
 use native.Mathlib.Omega.{arith}
 use lib.ListN.{length}
-use Rattle.lists.specs.Member.{Mem, Nodup, nodup-bound}
+use Rattle.lists.specs.Member.{Mem, Nodup}
+use Rattle.lists.proofs.MemberLaws.{nodup-bound}
 use Rattle.graph.specs.Edges.{farEnd, edgesAt}
-use Rattle.graph.specs.EdgeLaws.{edge-at, at-edge}
-use Rattle.graph.specs.Colored.{noColor, colorOf}
+use Rattle.graph.proofs.EdgeLaws.{edge-at, at-edge}
+use Rattle.graph.specs.Color.{noColor}
+use Rattle.graph.specs.Colored.{colorOf}
 use Rattle.vizing.specs.MisraGries.{edgeOfColor, path}
 use Rattle.vizing.specs.DefinitionLaws.{some-or-none, edge-of-color-some, edge-of-color-none}
 use Rattle.vizing.specs.Coloring.{Graph, Free, Proper}

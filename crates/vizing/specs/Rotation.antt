@@ -6,9 +6,9 @@ use mathlib.Core.List.{List, [], _∷_}
 use mathlib.Core.Bool.{cond}
 use lib.Dec.{eqb}
 use borrow.Author.Tests.{eq-eqb, ne-eqb}
-use Rattle.lists.specs.Tests.{dec-eq}
+use Rattle.lists.proofs.Tests.{dec-eq}
 use Rattle.lists.specs.Member.{Mem, Nodup}
-use Rattle.graph.specs.Colored.{noColor}
+use Rattle.graph.specs.Color.{noColor}
 use Rattle.vizing.specs.Coloring.{Graph, Free, Proper, Except, color-edge, uncolor-edge}
 use Rattle.vizing.specs.Fan.{lastEdge, last-member, Fan, fan-at}
 

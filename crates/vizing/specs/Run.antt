@@ -5,9 +5,9 @@ use native.Mathlib.Omega.{arith}
 use native.Mathlib.Nat.{not-suc-le-zero}
 use lib.ListN.{length-replicate}
 use Rattle.graph.specs.Edges.{firstEnd, secondEnd}
-use Rattle.graph.specs.Colored.{noColor}
+use Rattle.graph.specs.Color.{noColor}
 use Rattle.vizing.specs.MisraGries.{stepHeld, heldAfter}
-use Rattle.graph.specs.ColoredLaws.{color-replicate}
+use Rattle.graph.proofs.ColoredLaws.{color-replicate}
 use Rattle.vizing.specs.Simple.{Simple}
 use Rattle.vizing.specs.Palette.{Palette}
 use Rattle.vizing.specs.Step.{Invariant, step-keeps}

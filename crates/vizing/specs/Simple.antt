@@ -8,10 +8,10 @@ use native.Mathlib.Omega.{arith}
 use native.Mathlib.Decide.{decLt}
 use lib.Dec.{eqb}
 use borrow.Author.Tests.{eqb-true, eqb-false, eq-eqb}
-use Rattle.lists.specs.Tests.{by-test, dec-eq, and-true, true-and, or-true, true-or}
-use Rattle.lists.specs.Search.{any, any-false, any-true}
-use Rattle.graph.specs.Edges.{firstEnd, secondEnd, isLoop}
-use Rattle.graph.specs.EdgeLaws.{At}
+use Rattle.lists.proofs.Tests.{by-test, dec-eq, and-true, true-and, or-true, true-or}
+use Rattle.lists.specs.Search.{any}
+use Rattle.lists.proofs.SearchLaws.{any-false, any-true}
+use Rattle.graph.specs.Edges.{firstEnd, secondEnd, isLoop, At}
 use Rattle.vizing.specs.MisraGries.{hasLoop, sameEnds, hasDoubleEdge}
 
 -- "the same two ends as another, in either order"

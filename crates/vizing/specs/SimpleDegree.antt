@@ -5,9 +5,10 @@ use mathlib.Core.Logic.{inl, inr}
 use mathlib.Core.List.{List, [], _∷_, map}
 use native.Mathlib.Omega.{arith}
 use lib.ListN.{length-map}
-use Rattle.lists.specs.Member.{Mem, Nodup, nodup-bound}
+use Rattle.lists.specs.Member.{Mem, Nodup}
+use Rattle.lists.proofs.MemberLaws.{nodup-bound}
 use Rattle.graph.specs.Edges.{firstEnd, secondEnd, farEnd, edgesAt, degree}
-use Rattle.graph.specs.EdgeLaws.{far-at, edge-at, edges-at-nodup}
+use Rattle.graph.proofs.EdgeLaws.{far-at, edge-at, edges-at-nodup}
 use Rattle.vizing.specs.Simple.{Simple, Incident}
 use Rattle.vizing.specs.SimpleGraph.{simple-graph}
 

@@ -3,9 +3,9 @@ use Prim.Native.Nat.{ℕ}
 use mathlib.Core.Path.{_≡_, sym, _∙_}
 use mathlib.Core.Logic.{inl, inr, _≢_}
 use mathlib.Core.List.{List}
-use Rattle.lists.specs.Member.{dec-mem}
+use Rattle.lists.proofs.MemberLaws.{dec-mem}
 use Rattle.graph.specs.Edges.{farEnd, edgesAt}
-use Rattle.graph.specs.EdgeLaws.{far-first, far-second, far-at, far-far, two-ends, edge-at, at-edge}
+use Rattle.graph.proofs.EdgeLaws.{far-first, far-second, far-at, far-far, two-ends, edge-at, at-edge}
 use Rattle.vizing.specs.Simple.{Simple, Incident}
 use Rattle.vizing.specs.Coloring.{Graph}
 

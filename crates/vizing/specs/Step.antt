@@ -6,11 +6,13 @@ use mathlib.Core.List.{List, [], _∷_}
 use native.Mathlib.Omega.{arith}
 use native.Mathlib.Decide.{decLt}
 use lib.ListN.{length}
-use Rattle.lists.specs.Member.{Mem, Nodup, dec-mem}
+use Rattle.lists.specs.Member.{Mem, Nodup}
+use Rattle.lists.proofs.MemberLaws.{dec-mem}
 use Rattle.graph.specs.Edges.{firstEnd, secondEnd, farEnd, degree}
-use Rattle.graph.specs.EdgeLaws.{far-first, at-edge}
-use Rattle.graph.specs.CountLaws.{degree-bound}
-use Rattle.graph.specs.Colored.{noColor, colorOf}
+use Rattle.graph.proofs.EdgeLaws.{far-first, at-edge}
+use Rattle.graph.proofs.CountLaws.{degree-bound}
+use Rattle.graph.specs.Color.{noColor}
+use Rattle.graph.specs.Colored.{colorOf}
 use Rattle.vizing.specs.MisraGries.{growFan, lastFarEnd, placesTo, Found, find, step}
 use Rattle.vizing.specs.Coloring.{Graph, Free, Proper}
 use Rattle.vizing.specs.Simple.{Simple, Incident}

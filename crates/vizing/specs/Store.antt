@@ -5,10 +5,12 @@ use mathlib.Core.Logic.{_⊎_, inl, inr}
 use mathlib.Core.List.{List, [], _∷_, _++_, map}
 use lib.ListN.{length, set, length-set}
 use lib.Seq.{set-set, ext-getD}
-use Rattle.lists.specs.Member.{Mem, Nodup, dec-mem}
-use Rattle.graph.specs.Colored.{noColor, colorOf}
+use Rattle.lists.specs.Member.{Mem, Nodup}
+use Rattle.lists.proofs.MemberLaws.{dec-mem}
+use Rattle.graph.specs.Color.{noColor}
+use Rattle.graph.specs.Colored.{colorOf}
 use Rattle.vizing.specs.MisraGries.{store, swap, exchange, rotate}
-use Rattle.graph.specs.ColoredLaws.{color-set-same, color-set-other}
+use Rattle.graph.proofs.ColoredLaws.{color-set-same, color-set-other}
 use Rattle.vizing.specs.DefinitionLaws.{length-store, color-store-other}
 use Rattle.vizing.specs.AlternatingPath.{swap-swap}
 use Rattle.vizing.specs.Rotation.{Moved, Rotated}

@@ -6,14 +6,14 @@ use mathlib.Core.List.{List}
 use native.Mathlib.Omega.{arith}
 use lib.ListN.{length, take}
 use Rattle.graph.specs.Edges.{edgeCount, edgesAt, degree}
-use Rattle.graph.specs.EdgeLaws.{at-edge}
-use Rattle.graph.specs.CountLaws.{degree-bound}
-use Rattle.graph.specs.CheckLaws.{answered-accepted, written-accepted}
+use Rattle.graph.proofs.EdgeLaws.{at-edge}
+use Rattle.graph.proofs.CountLaws.{degree-bound}
+use Rattle.graph.proofs.CheckLaws.{answered-accepted, written-accepted}
 use Rattle.graph.specs.Report.{Accepted}
-use Rattle.graph.specs.Color.{daysOf, colored}
-use Rattle.graph.specs.Colored.{noColor, colorOf, smallestFreeAt}
+use Rattle.graph.specs.Color.{daysOf, colored, noColor}
+use Rattle.graph.specs.Colored.{colorOf, smallestFreeAt}
 use Rattle.vizing.specs.MisraGries.{held, misraGriesChecks, misraGries}
-use Rattle.graph.specs.ColoredLaws.{color-read, color-take, smallest-free-bound, smallest-none-has}
+use Rattle.graph.proofs.ColoredLaws.{color-read, color-take, smallest-free-bound, smallest-none-has}
 use Rattle.vizing.specs.LaterEdges.{held-length, held-uncolored}
 use Rattle.vizing.specs.FirstEdges.{edge-count-take, held-take}
 use Rattle.vizing.specs.Simple.{Incident}

@@ -7,7 +7,8 @@ use native.Mathlib.Omega.{arith}
 use lib.ListN.{length, getD, take, replicate}
 use Rattle.graph.specs.Edges.{edgeCount, firstEnd, secondEnd}
 use Rattle.graph.specs.Report.{accepted, refused, Accepted}
-use Rattle.graph.specs.Colored.{noColor, colorOf}
+use Rattle.graph.specs.Color.{noColor}
+use Rattle.graph.specs.Colored.{colorOf}
 use Rattle.vizing.specs.MisraGries.{held}
 use Rattle.vizing.specs.Demand3.{maxDegree, Admitted, Accurate, Call, Demand3}
 use Rattle.vizing.specs.Clause.{Demand3Of, MeetsClause}

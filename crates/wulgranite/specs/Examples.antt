@@ -2,7 +2,7 @@
 use mathlib.Core.Bool.{true, _&&_}
 use mathlib.Core.List.{List, _++_}
 use mathlib.Core.Path.{_≡_}
-use Rattle.lists.specs.Tests.{true-and}
+use Rattle.lists.proofs.Tests.{true-and}
 use Rattle.graph.specs.Rows.{Row, allHold, rows-append}
 use Rattle.two_color.specs.Examples as two-color
 use Rattle.line_graph.specs.Examples as line-graph

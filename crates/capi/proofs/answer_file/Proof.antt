@@ -1,6 +1,6 @@
 -- `answer_file` meets its contract: each case of the answer is told as its report.
 use borrow.Author.Needs.{needs}
-use Rattle.capi.specs.AnswerLaws.{file-accepted, file-refused}
+use Rattle.capi.proofs.AnswerLaws.{file-accepted, file-refused}
 use Rattle.capi.proofs.answer_file.Statement.{statement}
 use Rattle.capi.proofs.answer_file.Tie as tie
 

@@ -1,6 +1,6 @@
 -- `wg_greedy_node_color_with_coloring_strategy` meets its contract: a known number's strategy is called, an unknown one is answered by the checks or by 255.
 use borrow.Author.Needs.{needs}
-use Rattle.capi.specs.StrategyLaws.{nodes-known, nodes-unknown}
+use Rattle.capi.proofs.StrategyLaws.{nodes-known, nodes-unknown}
 use Rattle.capi.proofs.wg_greedy_node_color_with_coloring_strategy.Statement.{statement}
 use Rattle.capi.proofs.wg_greedy_node_color_with_coloring_strategy.Tie as tie
 

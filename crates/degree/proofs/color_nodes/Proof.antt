@@ -1,6 +1,6 @@
 -- `color_nodes` meets its contract: one law for each answer.
 use borrow.Author.Needs.{needs}
-use Rattle.greedy.specs.CallLaws.{nodes-no, nodes-passed, nodes-yes}
+use Rattle.greedy.proofs.CallLaws.{nodes-no, nodes-passed, nodes-yes}
 use Rattle.greedy.specs.Degree.{degreeColors}
 use Rattle.degree.proofs.color_nodes.Statement.{statement}
 use Rattle.degree.proofs.color_nodes.Tie as tie

@@ -3,8 +3,9 @@ use mathlib.Core.Path.{_≡_}
 use mathlib.Core.Bool.{true}
 use native.Mathlib.Omega.{arith}
 use borrow.Author.Needs.{needs}
-use Rattle.lists.specs.Search.{allBelow, below-all}
-use Rattle.graph_file.specs.CallLaws.{answer-bad, answer-short, answer-read, room, file-reader}
+use Rattle.lists.specs.Search.{allBelow}
+use Rattle.lists.proofs.SearchLaws.{below-all}
+use Rattle.graph_file.proofs.CallLaws.{answer-bad, answer-short, answer-read, room, file-reader}
 use Rattle.graph_file.proofs.read_graph_file.Statement.{statement}
 use Rattle.graph_file.proofs.read_graph_file.Tie as tie
 

@@ -1,6 +1,6 @@
 -- `check_items` meets its contract: each answer's tests say which check refuses, or that none does.
 use borrow.Author.Needs.{needs}
-use Rattle.greedy.specs.CallLaws.{check-refuses, colors-wrong, presets-wrong, checks-pass}
+use Rattle.greedy.proofs.CallLaws.{check-refuses, colors-wrong, presets-wrong, checks-pass}
 use Rattle.greedy.proofs.check_items.Statement.{statement}
 use Rattle.greedy.proofs.check_items.Tie as tie
 

@@ -1,7 +1,7 @@
 -- `color_edges` meets its contract: each answer of the checks, and the colours where they pass.
 use mathlib.Core.Path.{refl}
 use borrow.Author.Needs.{needs}
-use Rattle.greedy.specs.CallLaws.{edges-no, edges-passed, edges-yes}
+use Rattle.greedy.proofs.CallLaws.{edges-no, edges-passed, edges-yes}
 use Rattle.greedy.specs.IndependentSet.{independentSetColors}
 use Rattle.independent_set.specs.Items.{countOf, neighborsOf}
 use Rattle.independent_set.proofs.color_edges.Statement.{statement}

@@ -1,6 +1,6 @@
 -- `line_graph` meets its contract: a refusal of the graph checks leaves the list, and `list_pairs` does the rest.
 use borrow.Author.Needs.{needs}
-use Rattle.line_graph.specs.CallLaws.{line-refused, line-passed}
+use Rattle.line_graph.proofs.CallLaws.{line-refused, line-passed}
 use Rattle.line_graph.proofs.line_graph.Statement.{statement}
 use Rattle.line_graph.proofs.line_graph.Tie as tie
 

@@ -2,7 +2,7 @@
 use mathlib.Core.Path.{refl}
 use native.Mathlib.Omega.{arith}
 use borrow.Author.Needs.{needs}
-use Rattle.line_graph.specs.CallLaws.{few-edges, list-short, list-written}
+use Rattle.line_graph.proofs.CallLaws.{few-edges, list-short, list-written}
 use Rattle.line_graph.proofs.list_pairs.Statement.{statement}
 use Rattle.line_graph.proofs.list_pairs.Tie as tie
 

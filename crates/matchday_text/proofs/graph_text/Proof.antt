@@ -3,7 +3,7 @@ use mathlib.Core.Path.{sym}
 use native.Mathlib.Omega.{arith}
 use lib.Seq.{length-take-le}
 use borrow.Author.Needs.{needs}
-use Rattle.matchday_text.specs.CallLaws.{graph-done}
+use Rattle.matchday_text.proofs.CallLaws.{graph-done}
 use Rattle.matchday_text.proofs.graph_text.Statement.{statement}
 use Rattle.matchday_text.proofs.graph_text.Tie as tie
 

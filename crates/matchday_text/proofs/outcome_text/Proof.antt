@@ -1,6 +1,6 @@
 -- `outcome_text` meets its contract: the text of a refusal, or of an accepted call, which is short enough to count.
 use borrow.Author.Needs.{needs}
-use Rattle.matchday_text.specs.CallLaws.{refused-room, refused-text, accepted-room, accepted-text}
+use Rattle.matchday_text.proofs.CallLaws.{refused-room, refused-text, accepted-room, accepted-text}
 use Rattle.matchday_text.proofs.outcome_text.Statement.{statement}
 use Rattle.matchday_text.proofs.outcome_text.Tie as tie
 

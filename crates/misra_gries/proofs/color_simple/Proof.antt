@@ -3,7 +3,7 @@ use mathlib.Core.Path.{refl, sym, _∙_}
 use Prim.Native.Nat.{ℕ}
 use lib.ListN.{length-replicate}
 use lib.Seq.{length-take-le}
-use Rattle.lists.specs.Parts.{copied-same}
+use Rattle.lists.proofs.PartsLaws.{copied-same}
 use Rattle.misra_gries.specs.Run.{running-begin, running-room, running-done}
 use native.Mathlib.Omega.{arith}
 use Rattle.misra_gries.proofs.color_simple.Statement.{statement}

@@ -1,6 +1,6 @@
 -- `color_edges` meets its contract: the checks refuse, or the answer and its days are the definition's.
 use borrow.Author.Needs.{needs}
-use Rattle.greedy.specs.CallLaws.{edges-no, edges-passed, edges-yes}
+use Rattle.greedy.proofs.CallLaws.{edges-no, edges-passed, edges-yes}
 use Rattle.greedy.specs.Saturation.{saturationColors}
 use Rattle.saturation.proofs.color_edges.Statement.{statement}
 use Rattle.saturation.proofs.color_edges.Tie as tie

@@ -1,6 +1,6 @@
 -- `color_nodes` meets its contract: the checks refuse, or the answer and its days are the definition's.
 use borrow.Author.Needs.{needs}
-use Rattle.greedy.specs.CallLaws.{nodes-no, nodes-passed, nodes-yes}
+use Rattle.greedy.proofs.CallLaws.{nodes-no, nodes-passed, nodes-yes}
 use Rattle.greedy.specs.Saturation.{saturationColors}
 use Rattle.saturation.proofs.color_nodes.Statement.{statement}
 use Rattle.saturation.proofs.color_nodes.Tie as tie

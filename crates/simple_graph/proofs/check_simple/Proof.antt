@@ -1,7 +1,7 @@
 -- `check_simple` meets its contract: each answer's tests say which check refuses, or that none does.
 use mathlib.Core.Path.{sym, _∙_}
 use borrow.Author.Needs.{needs}
-use Rattle.simple_graph.specs.Simple.{graph-no, graph-yes, loop-no, double-no, simple-yes}
+use Rattle.simple_graph.proofs.SimpleLaws.{graph-no, graph-yes, loop-no, double-no, simple-yes}
 use Rattle.simple_graph.proofs.check_simple.Statement.{statement}
 use Rattle.simple_graph.proofs.check_simple.Tie as tie
 

@@ -1,7 +1,8 @@
 -- `table_has_double` meets its contract. The invariant: no node passed has two edges with the same far end, and no stamp is above the next node.
 use Prim.Native.Nat.{_≤_, _-_}
 use borrow.Author.Needs.{needs}
-use Rattle.simple_graph.specs.DoubleEdges.{Before, no-node, node-ready, double-found, node-more, no-double}
+use Rattle.simple_graph.specs.DoubleEdges.{Before}
+use Rattle.simple_graph.proofs.DoubleEdgesLaws.{no-node, node-ready, double-found, node-more, no-double}
 use Rattle.simple_graph.proofs.table_has_double.Statement.{statement}
 use Rattle.simple_graph.proofs.table_has_double.Tie as tie
 

@@ -1,7 +1,7 @@
 -- `color_checked` meets its contract: two colours suffice or not, and the sides are copied out.
 use mathlib.Core.Path.{sym, _∙_}
 use borrow.Author.Needs.{needs}
-use Rattle.two_color.specs.TwoColorLaws.{sides-fit, sides-accepted, report-refused, colors-refused}
+use Rattle.two_color.proofs.TwoColorLaws.{sides-fit, sides-accepted, report-refused, colors-refused}
 use Rattle.two_color.proofs.color_checked.Statement.{statement}
 use Rattle.two_color.proofs.color_checked.Tie as tie
 

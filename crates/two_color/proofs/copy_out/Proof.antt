@@ -5,7 +5,7 @@ use mathlib.Core.List.{_++_}
 use native.Mathlib.Omega.{arith}
 use lib.ListN.{length, take, drop, length-set}
 use borrow.Author.Needs.{needs}
-use Rattle.lists.specs.Parts.{copied-next, copied-end, copied-same}
+use Rattle.lists.proofs.PartsLaws.{copied-next, copied-end, copied-same}
 use Rattle.two_color.proofs.copy_out.Statement.{statement}
 use Rattle.two_color.proofs.copy_out.Tie as tie
 

@@ -1,6 +1,6 @@
 -- `two_color` meets its contract: each answer's tests say which check refuses, or that none does; the clause of the bipartition follows from the outcome.
 use borrow.Author.Needs.{needs}
-use Rattle.two_color.specs.TwoColorLaws.{graph-no, graph-yes, length-no, length-yes, checked-yes, bipartition}
+use Rattle.two_color.proofs.TwoColorLaws.{graph-no, graph-yes, length-no, length-yes, checked-yes, bipartition}
 use Rattle.two_color.proofs.two_color.Statement.{statement}
 use Rattle.two_color.proofs.two_color.Tie as tie
 

@@ -1,6 +1,6 @@
 -- `edges_properly_colored` meets its contract: by the date table's clause.
 use borrow.Author.Needs.{needs}
-use Rattle.callers.specs.RelianceLaws.{edges-proper}
+use Rattle.callers.proofs.RelianceLaws.{edges-proper}
 use Rattle.callers.proofs.date_table.edges_properly_colored.Statement.{statement}
 use Rattle.callers.proofs.date_table.edges_properly_colored.Tie as tie
 

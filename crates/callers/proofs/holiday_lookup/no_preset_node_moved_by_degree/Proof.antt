@@ -1,6 +1,6 @@
 -- `no_preset_node_moved_by_degree` meets its contract: by the holiday lookup's clause.
 use borrow.Author.Needs.{needs}
-use Rattle.callers.specs.RelianceLaws.{no-preset-moved}
+use Rattle.callers.proofs.RelianceLaws.{no-preset-moved}
 use Rattle.callers.proofs.holiday_lookup.no_preset_node_moved_by_degree.Statement.{statement}
 use Rattle.callers.proofs.holiday_lookup.no_preset_node_moved_by_degree.Tie as tie
 

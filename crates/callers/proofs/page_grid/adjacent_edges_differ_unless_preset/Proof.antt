@@ -1,6 +1,6 @@
 -- `adjacent_edges_differ_unless_preset` meets its contract: by the page grid's clause.
 use borrow.Author.Needs.{needs}
-use Rattle.callers.specs.RelianceLaws.{adjacent-edges}
+use Rattle.callers.proofs.RelianceLaws.{adjacent-edges}
 use Rattle.callers.proofs.page_grid.adjacent_edges_differ_unless_preset.Statement.{statement}
 use Rattle.callers.proofs.page_grid.adjacent_edges_differ_unless_preset.Tie as tie
 

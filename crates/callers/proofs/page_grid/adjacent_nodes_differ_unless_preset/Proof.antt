@@ -1,6 +1,6 @@
 -- `adjacent_nodes_differ_unless_preset` meets its contract: by the page grid's clause.
 use borrow.Author.Needs.{needs}
-use Rattle.callers.specs.RelianceLaws.{adjacent-nodes}
+use Rattle.callers.proofs.RelianceLaws.{adjacent-nodes}
 use Rattle.callers.proofs.page_grid.adjacent_nodes_differ_unless_preset.Statement.{statement}
 use Rattle.callers.proofs.page_grid.adjacent_nodes_differ_unless_preset.Tie as tie
 

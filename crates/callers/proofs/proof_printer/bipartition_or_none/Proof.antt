@@ -1,6 +1,6 @@
 -- `bipartition_or_none` meets its contract: by the proof printer's clause.
 use borrow.Author.Needs.{needs}
-use Rattle.callers.specs.RelianceLaws.{bipartition-or-none}
+use Rattle.callers.proofs.RelianceLaws.{bipartition-or-none}
 use Rattle.callers.proofs.proof_printer.bipartition_or_none.Statement.{statement}
 use Rattle.callers.proofs.proof_printer.bipartition_or_none.Tie as tie
 

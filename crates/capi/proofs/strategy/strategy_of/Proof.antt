@@ -1,6 +1,6 @@
 -- `strategy_of` meets its contract: each arm's number is the strategy's.
 use borrow.Author.Needs.{needs}
-use Rattle.capi.specs.StrategyLaws.{names-degree, names-saturation, names-independent-set, names-none}
+use Rattle.capi.proofs.StrategyLaws.{names-degree, names-saturation, names-independent-set, names-none}
 use Rattle.capi.proofs.strategy.strategy_of.Statement.{statement}
 use Rattle.capi.proofs.strategy.strategy_of.Tie as tie
 

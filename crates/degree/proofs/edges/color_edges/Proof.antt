@@ -1,6 +1,6 @@
 -- `color_edges` meets its contract: one law for each answer.
 use borrow.Author.Needs.{needs}
-use Rattle.greedy.specs.CallLaws.{edges-no, edges-passed, edges-yes}
+use Rattle.greedy.proofs.CallLaws.{edges-no, edges-passed, edges-yes}
 use Rattle.greedy.specs.Degree.{degreeColors}
 use Rattle.degree.proofs.edges.color_edges.Statement.{statement}
 use Rattle.degree.proofs.edges.color_edges.Tie as tie

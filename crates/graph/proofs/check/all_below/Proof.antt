@@ -5,7 +5,8 @@ use mathlib.Core.Logic.{⊎-elim}
 use native.Mathlib.Omega.{arith}
 use lib.ListN.{length, take}
 use borrow.Author.Needs.{needs}
-use Rattle.lists.specs.Search.{allBelow, all-below-kept, all-below-broken, all-below-all}
+use Rattle.lists.specs.Search.{allBelow}
+use Rattle.lists.proofs.SearchLaws.{all-below-kept, all-below-broken, all-below-all}
 use Rattle.graph.proofs.check.all_below.Statement.{statement}
 use Rattle.graph.proofs.check.all_below.Tie as tie
 

@@ -1,6 +1,6 @@
 -- `check_graph` meets its contract: each answer's tests say which check refuses, or that none does.
 use borrow.Author.Needs.{needs}
-use Rattle.graph.specs.CheckLaws.{too-many-nodes, odd-ends, too-many-ends, end-outside, graph-passes}
+use Rattle.graph.proofs.CheckLaws.{too-many-nodes, odd-ends, too-many-ends, end-outside, graph-passes}
 use Rattle.graph.proofs.check.check_graph.Statement.{statement}
 use Rattle.graph.proofs.check.check_graph.Tie as tie
 

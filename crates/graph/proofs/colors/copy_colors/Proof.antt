@@ -5,7 +5,7 @@ use mathlib.Core.List.{_++_}
 use native.Mathlib.Omega.{arith}
 use lib.ListN.{length, take, drop, length-set}
 use borrow.Author.Needs.{needs}
-use Rattle.lists.specs.Parts.{copied-next, copied-full, copied-end}
+use Rattle.lists.proofs.PartsLaws.{copied-next, copied-full, copied-end}
 use Rattle.graph.proofs.colors.copy_colors.Statement.{statement}
 use Rattle.graph.proofs.colors.copy_colors.Tie as tie
 

@@ -5,7 +5,8 @@ use mathlib.Core.Logic.{⊎-elim, inl, inr}
 use native.Mathlib.Omega.{arith}
 use lib.ListN.{length, drop}
 use borrow.Author.Needs.{needs}
-use Rattle.graph.specs.Color.{daysOf, days-none, days-more, days-same, days-all}
+use Rattle.graph.specs.Color.{daysOf}
+use Rattle.graph.proofs.ColorLaws.{days-none, days-more, days-same, days-all}
 use Rattle.graph.proofs.colors.days_of.Statement.{statement}
 use Rattle.graph.proofs.colors.days_of.Tie as tie
 

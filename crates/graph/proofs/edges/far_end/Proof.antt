@@ -1,6 +1,6 @@
 -- `far_end` meets its contract: the first end is the node, or it is not.
 use borrow.Author.Needs.{needs}
-use Rattle.graph.specs.EdgeLaws.{far-read-second, far-read-first}
+use Rattle.graph.proofs.EdgeLaws.{far-read-second, far-read-first}
 use Rattle.graph.proofs.edges.far_end.Statement.{statement}
 use Rattle.graph.proofs.edges.far_end.Tie as tie
 

@@ -4,7 +4,7 @@ use mathlib.Core.Logic.{_≢_}
 use native.Mathlib.Omega.{arith}
 use lib.ListN.{length, getD}
 use borrow.Author.Needs.{needs}
-use Rattle.greedy.specs.Marks.{first-unmarked-begin, first-unmarked-next}
+use Rattle.greedy.proofs.MarksLaws.{first-unmarked-begin, first-unmarked-next}
 use Rattle.greedy.proofs.smallest.first_unmarked.Statement.{statement}
 use Rattle.greedy.proofs.smallest.first_unmarked.Tie as tie
 

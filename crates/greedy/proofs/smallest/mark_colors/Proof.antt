@@ -6,7 +6,8 @@ use native.Mathlib.Omega.{arith}
 use lib.ListN.{length, take}
 use borrow.Author.Needs.{needs}
 use Rattle.greedy.specs.Marks.{Marked}
-use Rattle.greedy.specs.EdgeMarks.{colorsOf, edges-marked-begin, edges-marked-next, edges-marked-end}
+use Rattle.greedy.specs.EdgeMarks.{colorsOf}
+use Rattle.greedy.proofs.EdgeMarksLaws.{edges-marked-begin, edges-marked-next, edges-marked-end}
 use Rattle.greedy.proofs.smallest.mark_colors.Statement.{statement}
 use Rattle.greedy.proofs.smallest.mark_colors.Tie as tie
 

@@ -5,8 +5,9 @@ use native.Mathlib.Omega.{arith}
 use lib.ListN.{length, take}
 use borrow.Author.Needs.{needs}
 use Rattle.graph.specs.Stretch.{stretch}
-use Rattle.graph.specs.WalkLaws.{step-edge}
-use Rattle.greedy.specs.Marks.{farColors, Marked, far-marked-begin, far-marked-next, far-marked-end}
+use Rattle.graph.proofs.WalkLaws.{step-edge}
+use Rattle.greedy.specs.Marks.{farColors, Marked}
+use Rattle.greedy.proofs.MarksLaws.{far-marked-begin, far-marked-next, far-marked-end}
 use Rattle.greedy.proofs.smallest.mark_far_colors.Statement.{statement}
 use Rattle.greedy.proofs.smallest.mark_far_colors.Tie as tie
 

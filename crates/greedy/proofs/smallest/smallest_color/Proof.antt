@@ -1,6 +1,6 @@
 -- `smallest_color` meets its contract: the first colour without a mark is the smallest that no neighbour has.
 use borrow.Author.Needs.{needs}
-use Rattle.greedy.specs.Marks.{marked-none, smallest-found}
+use Rattle.greedy.proofs.MarksLaws.{marked-none, smallest-found}
 use Rattle.greedy.proofs.smallest.smallest_color.Statement.{statement}
 use Rattle.greedy.proofs.smallest.smallest_color.Tie as tie
 

@@ -2,8 +2,8 @@
 use mathlib.Core.List.{[]}
 use mathlib.Core.Path.{_∙_}
 use borrow.Author.Needs.{needs}
-use Rattle.greedy.specs.Marks.{marked-none}
-use Rattle.greedy.specs.EdgeMarks.{smallest-edge-found}
+use Rattle.greedy.proofs.MarksLaws.{marked-none}
+use Rattle.greedy.proofs.EdgeMarksLaws.{smallest-edge-found}
 use Rattle.greedy.proofs.smallest.smallest_edge_color.Statement.{statement}
 use Rattle.greedy.proofs.smallest.smallest_edge_color.Tie as tie
 

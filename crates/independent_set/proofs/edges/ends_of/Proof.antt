@@ -1,6 +1,6 @@
 -- `ends_of` meets its contract: the ends are compared.
 use borrow.Author.Needs.{needs}
-use Rattle.independent_set.specs.Edges.{ends-rise, ends-fall}
+use Rattle.independent_set.proofs.EdgesLaws.{ends-rise, ends-fall}
 use Rattle.independent_set.proofs.edges.ends_of.Statement.{statement}
 use Rattle.independent_set.proofs.edges.ends_of.Tie as tie
 

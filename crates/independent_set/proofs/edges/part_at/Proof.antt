@@ -1,6 +1,6 @@
 -- `part_at` meets its contract: the part at the higher end, or at the lower unless the edge is a loop.
 use borrow.Author.Needs.{needs}
-use Rattle.independent_set.specs.Neighbors.{part-higher, part-lower, part-none}
+use Rattle.independent_set.proofs.NeighborsLaws.{part-higher, part-lower, part-none}
 use Rattle.independent_set.proofs.edges.part_at.Statement.{statement}
 use Rattle.independent_set.proofs.edges.part_at.Tie as tie
 

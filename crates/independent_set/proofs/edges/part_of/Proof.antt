@@ -1,6 +1,6 @@
 -- `part_of` meets its contract: the edges are cut where the edge stands.
 use borrow.Author.Needs.{needs}
-use Rattle.independent_set.specs.Edges.{cut-after, cut-none, cut-before, cut-inside}
+use Rattle.independent_set.proofs.EdgesLaws.{cut-after, cut-none, cut-before, cut-inside}
 use Rattle.independent_set.proofs.edges.part_of.Statement.{statement}
 use Rattle.independent_set.proofs.edges.part_of.Tie as tie
 

@@ -4,7 +4,7 @@ use mathlib.Core.Path.{_≡_}
 use lib.ListN.{length, drop}
 use borrow.Author.Needs.{needs}
 use Rattle.greedy.specs.IndependentSet.{placeOf}
-use Rattle.independent_set.specs.Edges.{place-start, place-here, place-more, place-end}
+use Rattle.independent_set.proofs.EdgesLaws.{place-start, place-here, place-more, place-end}
 use Rattle.independent_set.proofs.edges.place_of.Statement.{statement}
 use Rattle.independent_set.proofs.edges.place_of.Tie as tie
 

@@ -4,10 +4,11 @@ use mathlib.Core.List.{reverse}
 use native.Mathlib.Omega.{arith}
 use lib.ListN.{length, drop}
 use borrow.Author.Needs.{needs}
-use Rattle.lists.specs.Member.{mem-getD}
+use Rattle.lists.proofs.MemberLaws.{mem-getD}
 use Rattle.greedy.specs.IndependentSet.{putOffAll}
-use Rattle.independent_set.specs.Listing.{Held, listsAt, held-at}
-use Rattle.independent_set.specs.Edges.{part-start, part-done, part-more}
+use Rattle.independent_set.specs.Listing.{Held, listsAt}
+use Rattle.independent_set.proofs.ListingLaws.{held-at}
+use Rattle.independent_set.proofs.EdgesLaws.{part-start, part-done, part-more}
 use Rattle.independent_set.proofs.edges.put_off_part.Statement.{statement}
 use Rattle.independent_set.proofs.edges.put_off_part.Tie as tie
 

@@ -4,8 +4,9 @@ use native.Mathlib.Omega.{arith}
 use borrow.Author.Needs.{needs}
 use Rattle.graph.specs.Stretch.{stretch}
 use Rattle.greedy.specs.IndependentSet.{putOffAll}
-use Rattle.independent_set.specs.Listing.{Held, listsAt, held-at}
-use Rattle.independent_set.specs.Neighbors.{partsTo, part-below, parts-all, parts-done, parts-more, parts-none}
+use Rattle.independent_set.specs.Listing.{Held, listsAt}
+use Rattle.independent_set.proofs.ListingLaws.{held-at}
+use Rattle.independent_set.proofs.NeighborsLaws.{partsTo, part-below, parts-all, parts-done, parts-more, parts-none}
 use Rattle.independent_set.proofs.edges.put_off_sharing.Statement.{statement}
 use Rattle.independent_set.proofs.edges.put_off_sharing.Tie as tie
 

@@ -5,7 +5,8 @@ use native.Mathlib.Omega.{arith}
 use lib.ListN.{length}
 use borrow.Author.Needs.{needs}
 use Rattle.greedy.specs.Turn.{uncolored}
-use Rattle.independent_set.specs.Listing.{Listing, list-more, list-none, list-skip}
+use Rattle.independent_set.specs.Listing.{Listing}
+use Rattle.independent_set.proofs.ListingLaws.{list-more, list-none, list-skip}
 use Rattle.independent_set.proofs.list.list_uncolored.Statement.{statement}
 use Rattle.independent_set.proofs.list.list_uncolored.Tie as tie
 

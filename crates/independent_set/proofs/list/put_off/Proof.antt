@@ -4,7 +4,7 @@ use mathlib.Core.Path.{refl}
 use native.Mathlib.Omega.{arith}
 use lib.ListN.{length-set}
 use borrow.Author.Needs.{needs}
-use Rattle.independent_set.specs.Listing.{listed-there, not-listed, not-there, put-off-listed, put-off-other}
+use Rattle.independent_set.proofs.ListingLaws.{listed-there, not-listed, not-there, put-off-listed, put-off-other}
 use Rattle.independent_set.proofs.list.put_off.Statement.{statement}
 use Rattle.independent_set.proofs.list.put_off.Tie as tie
 

@@ -5,8 +5,9 @@ use lib.ListN.{length, take}
 use borrow.Author.Needs.{needs}
 use Rattle.graph.specs.Edges.{farEnd}
 use Rattle.greedy.specs.IndependentSet.{putOffAll}
-use Rattle.independent_set.specs.Listing.{Held, listsAt, held-at}
-use Rattle.independent_set.specs.Neighbors.{neighbor-below, neighbors-done, neighbors-more, neighbors-none}
+use Rattle.independent_set.specs.Listing.{Held, listsAt}
+use Rattle.independent_set.proofs.ListingLaws.{held-at}
+use Rattle.independent_set.proofs.NeighborsLaws.{neighbor-below, neighbors-done, neighbors-more, neighbors-none}
 use Rattle.independent_set.proofs.nodes.put_off_far_ends.Statement.{statement}
 use Rattle.independent_set.proofs.nodes.put_off_far_ends.Tie as tie
 

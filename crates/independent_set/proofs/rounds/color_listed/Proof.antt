@@ -4,7 +4,7 @@ use borrow.Author.Needs.{needs}
 use Rattle.greedy.specs.IndependentSet.{colorListed}
 use Rattle.independent_set.specs.Items.{neighborsOf}
 use Rattle.independent_set.specs.Listing.{listsAt}
-use Rattle.independent_set.specs.Rounds.{Turning, front-below, front-inside, front-taken, turn-done, turn-less, turn-more, turn-start}
+use Rattle.independent_set.proofs.RoundsLaws.{Turning, front-below, front-inside, front-taken, turn-done, turn-less, turn-more, turn-start}
 use Rattle.independent_set.proofs.rounds.color_listed.Statement.{statement}
 use Rattle.independent_set.proofs.rounds.color_listed.Tie as tie
 

@@ -7,8 +7,8 @@ use lib.Seq.{length-take-le}
 use borrow.Author.Needs.{needs}
 use Rattle.greedy.specs.IndependentSet.{rounds}
 use Rattle.independent_set.specs.Items.{neighborsOf}
-use Rattle.independent_set.specs.Listing.{held-at}
-use Rattle.independent_set.specs.Rounds.{Rounding, round-held, round-more, rounds-done, rounds-over, rounds-start}
+use Rattle.independent_set.proofs.ListingLaws.{held-at}
+use Rattle.independent_set.proofs.RoundsLaws.{Rounding, round-held, round-more, rounds-done, rounds-over, rounds-start}
 use Rattle.independent_set.proofs.rounds.color_rounds.Statement.{statement}
 use Rattle.independent_set.proofs.rounds.color_rounds.Tie as tie
 

@@ -4,7 +4,8 @@ use mathlib.Core.Path.{_≡_}
 use native.Mathlib.Omega.{arith}
 use lib.ListN.{length}
 use borrow.Author.Needs.{needs}
-use Rattle.line_graph.specs.WrittenPairs.{pairsBelow, count-start, square-bound, square-covers, count-next}
+use Rattle.line_graph.specs.WrittenPairs.{pairsBelow}
+use Rattle.line_graph.proofs.WrittenPairsLaws.{count-start, square-bound, square-covers, count-next}
 use Rattle.line_graph.proofs.pairs.list_length.Statement.{statement}
 use Rattle.line_graph.proofs.pairs.list_length.Tie as tie
 

@@ -1,6 +1,6 @@
 -- `put_days` meets its contract: the word, the days, then the lines.
 use borrow.Author.Needs.{needs}
-use Rattle.matchday_text.specs.PutLaws.{days-word, days-number, days-lines, days-put}
+use Rattle.matchday_text.proofs.PutLaws.{days-word, days-number, days-lines, days-put}
 use Rattle.matchday_text.proofs.lines.put_days.Statement.{statement}
 use Rattle.matchday_text.proofs.lines.put_days.Tie as tie
 

@@ -1,6 +1,6 @@
 -- `put_edge` meets its contract: the numbers are those of the edge.
 use borrow.Author.Needs.{needs}
-use Rattle.matchday_text.specs.PutLaws.{edge-room, edge-put}
+use Rattle.matchday_text.proofs.PutLaws.{edge-room, edge-put}
 use Rattle.matchday_text.proofs.lines.put_edge.Statement.{statement}
 use Rattle.matchday_text.proofs.lines.put_edge.Tie as tie
 

@@ -7,7 +7,7 @@ use borrow.Author.Needs.{needs}
 use Rattle.graph.specs.Edges.{edgeCount}
 use Rattle.matchday_text.specs.Text.{edgeLines}
 use Rattle.matchday_text.specs.Put.{Put}
-use Rattle.matchday_text.specs.PutLaws.{line-none, line-room, line-more, line-all}
+use Rattle.matchday_text.proofs.PutLaws.{line-none, line-room, line-more, line-all}
 use Rattle.matchday_text.proofs.lines.put_edges.Statement.{statement}
 use Rattle.matchday_text.proofs.lines.put_edges.Tie as tie
 

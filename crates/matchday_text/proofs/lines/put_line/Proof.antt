@@ -1,6 +1,6 @@
 -- `put_line` meets its contract: four numbers, each with the byte that follows it.
 use borrow.Author.Needs.{needs}
-use Rattle.matchday_text.specs.PutLaws.{line-first, line-second, line-third, line-fourth, line-put}
+use Rattle.matchday_text.proofs.PutLaws.{line-first, line-second, line-third, line-fourth, line-put}
 use Rattle.matchday_text.proofs.lines.put_line.Statement.{statement}
 use Rattle.matchday_text.proofs.lines.put_line.Tie as tie
 

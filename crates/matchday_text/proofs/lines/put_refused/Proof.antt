@@ -1,6 +1,6 @@
 -- `put_refused` meets its contract: the word, then the number.
 use borrow.Author.Needs.{needs}
-use Rattle.matchday_text.specs.PutLaws.{refused-word, refused-number, refused-put}
+use Rattle.matchday_text.proofs.PutLaws.{refused-word, refused-number, refused-put}
 use Rattle.matchday_text.proofs.lines.put_refused.Statement.{statement}
 use Rattle.matchday_text.proofs.lines.put_refused.Tie as tie
 

@@ -4,7 +4,7 @@ use Prim.Native.Nat.{ℕ, _<_}
 use borrow.Author.Needs.{needs}
 use borrow.Fn.Kinds.{In}
 use borrow.Fn.PlainCycle.{Measures, is, falls, and}
-use Rattle.matchday_text.specs.PutLaws.{room-digit, put-digit, room-tenth, room-last, put-last}
+use Rattle.matchday_text.proofs.PutLaws.{room-digit, put-digit, room-tenth, room-last, put-last}
 use Rattle.matchday_text.proofs.put.put_decimal.Reads as put-decimal
 use Rattle.matchday_text.proofs.put.put_decimal.Kinds as put-decimal-kinds
 use Rattle.matchday_text.proofs.put.+put_decimal.Lts-put_decimal as put-decimal-lts

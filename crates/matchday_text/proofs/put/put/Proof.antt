@@ -1,7 +1,7 @@
 -- `put` meets its contract: a byte past the end of the slice is left out.
 use native.Mathlib.Omega.{arith}
 use borrow.Author.Needs.{needs}
-use Rattle.matchday_text.specs.Put.{put-inside, put-outside}
+use Rattle.matchday_text.proofs.PutLaws.{put-inside, put-outside}
 use Rattle.matchday_text.proofs.put.put.Statement.{statement}
 use Rattle.matchday_text.proofs.put.put.Tie as tie
 

@@ -4,8 +4,8 @@ use mathlib.Core.Path.{_≡_, refl, _∙_}
 use native.Mathlib.Omega.{arith}
 use lib.ListN.{length, take}
 use borrow.Author.Needs.{needs}
-use Rattle.matchday_text.specs.Put.{Put, put-none}
-use Rattle.matchday_text.specs.PutLaws.{put-byte-room, put-byte-more, put-byte-all}
+use Rattle.matchday_text.specs.Put.{Put}
+use Rattle.matchday_text.proofs.PutLaws.{put-none, put-byte-room, put-byte-more, put-byte-all}
 use Rattle.matchday_text.proofs.put.put_bytes.Statement.{statement}
 use Rattle.matchday_text.proofs.put.put_bytes.Tie as tie
 

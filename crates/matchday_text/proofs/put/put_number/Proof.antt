@@ -1,6 +1,6 @@
 -- `put_number` meets its contract: the digits, then the byte.
 use borrow.Author.Needs.{needs}
-use Rattle.matchday_text.specs.PutLaws.{number-room, number-last, number-put}
+use Rattle.matchday_text.proofs.PutLaws.{number-room, number-last, number-put}
 use Rattle.matchday_text.proofs.put.put_number.Statement.{statement}
 use Rattle.matchday_text.proofs.put.put_number.Tie as tie
 

@@ -4,7 +4,7 @@ use mathlib.Core.Bool.{true≢false, false≢true}
 use native.Mathlib.Omega.{arith}
 use borrow.Author.Needs.{needs}
 use borrow.Author.Tests.{not-true, not-false}
-use Rattle.two_color.specs.Components.{joined-none, room-passed, taken-fine, taken-clash, colored-all}
+use Rattle.two_color.proofs.ComponentsLaws.{joined-none, room-passed, taken-fine, taken-clash, colored-all}
 use Rattle.two_color.proofs.components.color_nodes.Statement.{statement}
 use Rattle.two_color.proofs.components.color_nodes.Tie as tie
 

@@ -3,7 +3,7 @@ use mathlib.Core.Path.{_∙_}
 use mathlib.Core.Logic.{⊎-elim, inl, inr}
 use native.Mathlib.Omega.{arith}
 use lib.ListN.{length-set}
-use Rattle.two_color.specs.Components.{join-inside, join-room, join-apart}
+use Rattle.two_color.proofs.ComponentsLaws.{join-inside, join-room, join-apart}
 use Rattle.two_color.proofs.components.join.Statement.{statement}
 use Rattle.two_color.proofs.components.join.Tie as tie
 

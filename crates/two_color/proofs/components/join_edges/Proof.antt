@@ -5,10 +5,11 @@ use mathlib.Core.Bool.{false}
 use native.Mathlib.Omega.{arith}
 use lib.ListN.{length}
 use borrow.Author.Tests.{not-true, not-false}
-use Rattle.graph.specs.CheckLaws.{passed-inside}
+use Rattle.graph.proofs.CheckLaws.{passed-inside}
 use Rattle.graph.specs.Edges.{edgeCount, firstEnd, secondEnd}
 use Rattle.two_color.specs.Sides.{oddCycle}
-use Rattle.two_color.specs.Components.{Joined, taken-fine, taken-early, taken-all}
+use Rattle.two_color.specs.Components.{Joined}
+use Rattle.two_color.proofs.ComponentsLaws.{taken-fine, taken-early, taken-all}
 use Rattle.two_color.proofs.components.join_edges.Statement.{statement}
 use Rattle.two_color.proofs.components.join_edges.Tie as tie
 

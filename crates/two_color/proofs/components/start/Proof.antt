@@ -4,7 +4,7 @@ use mathlib.Core.Path.{_≡_}
 use native.Mathlib.Omega.{arith}
 use lib.ListN.{length, getD, length-set}
 use borrow.Author.Needs.{needs}
-use Rattle.two_color.specs.Components.{own-more}
+use Rattle.two_color.proofs.ComponentsLaws.{own-more}
 use Rattle.two_color.proofs.components.start.Statement.{statement}
 use Rattle.two_color.proofs.components.start.Tie as tie
 

@@ -2,7 +2,7 @@
 use Prim.Native.Nat.{_-_}
 use mathlib.Core.Logic.{⊎-elim}
 use native.Mathlib.Omega.{arith}
-use Rattle.two_color.specs.Components.{Colored, colored-none, colored-root, above-colored, above-two, colored-hung}
+use Rattle.two_color.proofs.ComponentsLaws.{Colored, colored-none, colored-root, above-colored, above-two, colored-hung}
 use Rattle.two_color.proofs.components.write_sides.Statement.{statement}
 use Rattle.two_color.proofs.components.write_sides.Tie as tie
 

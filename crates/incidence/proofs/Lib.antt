@@ -1,0 +1,4 @@
+-- Laws of what specs/ defines.
+pub mod FillLaws
+pub mod IncidenceLaws
+pub mod FrontLaws

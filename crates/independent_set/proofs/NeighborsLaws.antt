@@ -1,0 +1,155 @@
+-- Putting off the neighbours of an item, as the code goes over them: of a node the far ends of its edges, of an edge the parts of the edges at its ends.
+use Prim.Native.Nat.{ℕ, zero, suc, _+_, _%_, _≤_, _<_}
+use mathlib.Core.Bool.{Bool, true, false}
+use mathlib.Core.List.{List, [], _∷_, _++_, map, reverse, append-assoc, append-nil}
+use mathlib.Core.Path.{_≡_, refl, sym, ap, subst, _∙_}
+use native.Mathlib.Nat.{not-suc-le-zero}
+use native.Mathlib.Numerals.{add-one}
+use native.Mathlib.Omega.{arith}
+use lib.ListN.{length, getD, take}
+use lib.Seq.{take-all}
+use lib.Dec.{eqb, ltb}
+use borrow.Author.Tests.{eq-eqb, ne-eqb, eqb-true}
+use Rattle.lists.proofs.Tests.{by-test}
+use Rattle.lists.specs.Member.{Mem}
+use Rattle.lists.proofs.MemberLaws.{mem-map, mem-getD}
+use Rattle.graph.proofs.CheckLaws.{passed-inside}
+use Rattle.graph.specs.Edges.{edgeCount, farEnd, firstEnd, secondEnd, isLoop, edgesAt}
+use Rattle.graph.proofs.EdgeLaws.{edge-at, edges-at-nodup}
+use Rattle.graph.proofs.NeighborLaws.{neighbors-far-ends, passed-neighbor}
+use Rattle.graph.specs.Stretch.{stretch}
+use Rattle.line_graph.specs.LineNeighbors.{laterAt, earlierAt, higherEnd, lowerEnd, lineNeighbors}
+use Rattle.line_graph.proofs.LineNeighborLaws.{loop-neighbors, apart-neighbors}
+use Rattle.line_graph.proofs.PairLaws.{before-member, after-member}
+use Rattle.greedy.proofs.GreedyLaws.{edge-neighbors}
+use Rattle.greedy.specs.IndependentSet.{Lists, putOff, putOffAll}
+use Rattle.independent_set.specs.declared.items.Items.{Items}
+use Rattle.independent_set.specs.Items.{neighborsOf, Tabled}
+use Rattle.independent_set.proofs.ItemsLaws.{nodes-count, nodes-neighbors, edges-count, edges-neighbors}
+use Rattle.independent_set.specs.Listing.{Held, listsAt}
+use Rattle.independent_set.proofs.ListingLaws.{lists-held}
+use Rattle.independent_set.specs.Edges.{partIn}
+use Rattle.independent_set.proofs.EdgesLaws.{put-off-append}
+use Rattle.independent_set.specs.Neighbors.{partAt}
+
+-- ---- the neighbours of a node
+
+put-off-one-more : (f : ℕ → ℕ) (s : Lists) (l : List ℕ) (i : ℕ) → i < length l → putOffAll s (map f (take (suc i) l)) ≡ putOff (putOffAll s (map f (take i l))) (f (getD l i 0))
+unfolding putOffAll
+put-off-one-more f s [] i h = absurd (not-suc-le-zero h)
+put-off-one-more f s (x ∷ l) zero h = refl
+put-off-one-more f s (x ∷ l) (suc i) h = put-off-one-more f (putOff s (f x)) l i (omega arith)
+
+pub neighbors-none : (n : ℕ) (listed place next : List ℕ) (len end : ℕ) (s : Lists) → Held n listed place next len end s → Held n listed place next len end (putOffAll s [])
+unfolding putOffAll
+neighbors-none n listed place next len end s h = h
+
+module _ (items : Items) (ends starts entries edges : List ℕ) (v : ℕ) (kind : items .edges ≡ false) (known : Tabled items ends starts entries) (less : v < items .count) (e : edges ≡ stretch starts entries v) where
+  edges-same : edges ≡ edgesAt ends (edgeCount ends) v
+  edges-same = e ∙ known .table .row v (omega (arith, nodes-count items ends starts entries known kind))
+
+  pub neighbor-below : (i far : ℕ) → i < length edges → far ≡ farEnd ends (getD edges i 0) v → far < items .count
+  neighbor-below i far h p =
+      rw (nodes-count items ends starts entries known kind)
+      (passed-neighbor (items .nodes) ends (known .passed) v far
+      (rw (p, neighbors-far-ends ends (edgeCount ends) v, ← edges-same) (mem-map (λ (j : ℕ). farEnd ends j v) (getD edges i 0) edges (mem-getD edges i 0 h))))
+
+  pub neighbors-done : (i : ℕ) (listed place next : List ℕ) (len end : ℕ) (s : Lists) → length edges ≤ i → Held (items .count) listed place next len end (putOffAll s (map (λ (j : ℕ). farEnd ends j v) (take i edges)))
+      → Held (items .count) listed place next len end (putOffAll s (neighborsOf items ends v))
+  neighbors-done i listed place next len end s b h = rw (nodes-neighbors items ends v kind, neighbors-far-ends ends (edgeCount ends) v, ← edges-same) (rw (take-all i edges b) at h)
+
+pub neighbors-more : (n : ℕ) (ends edges : List ℕ) (v i far : ℕ) (s : Lists) (listed place next : List ℕ) (len end : ℕ) (listed′ place′ next′ : List ℕ) (len′ end′ : ℕ)
+    → Held n listed place next len end (putOffAll s (map (λ (j : ℕ). farEnd ends j v) (take i edges))) → i < length edges → far ≡ farEnd ends (getD edges i 0) v
+    → Held n listed′ place′ next′ len′ end′ (putOff (listsAt listed next len end) far)
+    → Held n listed′ place′ next′ len′ end′ (putOffAll s (map (λ (j : ℕ). farEnd ends j v) (take (i + 1) edges)))
+neighbors-more n ends edges v i far s listed place next len end listed′ place′ next′ len′ end′ h b p k =
+    rw (add-one i, put-off-one-more (λ (j : ℕ). farEnd ends j v) s edges i b, ← p) (rw (lists-held n listed place next len end (putOffAll s (map (λ (j : ℕ). farEnd ends j v) (take i edges))) h) at k)
+
+-- ---- the parts of the edges that share an end with an edge
+
+-- The parts of the turns below one, each last first.
+unfoldable pub partsTo : (ℕ → List ℕ) → List ℕ → ℕ → ℕ → List ℕ
+partsTo at ends k zero = []
+partsTo at ends k (suc turn) = partsTo at ends k turn ++ reverse (partAt at ends k turn)
+
+ends-cases : (P : ℕ → ℕ → Type 0) (ends : List ℕ) (k : ℕ) → P (secondEnd ends k) (firstEnd ends k) → P (firstEnd ends k) (secondEnd ends k) → P (higherEnd ends k) (lowerEnd ends k)
+unfolding higherEnd lowerEnd
+ends-cases P ends k x y = by-test (ltb (firstEnd ends k) (secondEnd ends k)) (λ t. rw t x) (λ t. rw t y)
+
+same-loop : (ends : List ℕ) (k : ℕ) → higherEnd ends k ≡ lowerEnd ends k → isLoop ends k ≡ true
+unfolding isLoop
+same-loop ends k = ends-cases (λ (a b : ℕ). a ≡ b → isLoop ends k ≡ true) ends k (λ e. eq-eqb (firstEnd ends k) (secondEnd ends k) (sym e)) (λ e. eq-eqb (firstEnd ends k) (secondEnd ends k) e)
+
+other-apart : (ends : List ℕ) (k : ℕ) → (higherEnd ends k ≡ lowerEnd ends k → ⊥) → isLoop ends k ≡ false
+unfolding isLoop
+other-apart ends k = ends-cases (λ (a b : ℕ). (a ≡ b → ⊥) → isLoop ends k ≡ false) ends k (λ d. ne-eqb (firstEnd ends k) (secondEnd ends k) (λ e. d (sym e))) (λ d. ne-eqb (firstEnd ends k) (secondEnd ends k) d)
+
+loop-higher : (ends : List ℕ) (k : ℕ) → isLoop ends k ≡ true → higherEnd ends k ≡ firstEnd ends k
+unfolding isLoop
+loop-higher ends k t = ends-cases (λ (a b : ℕ). a ≡ firstEnd ends k) ends k (sym (eqb-true (firstEnd ends k) (secondEnd ends k) t)) refl
+
+-- The part of a turn as the code finds it.
+module _ (at : ℕ → List ℕ) (ends : List ℕ) (k turn a b : ℕ) (edges part : List ℕ) (p : a ≡ higherEnd ends k) (q : b ≡ lowerEnd ends k) where
+  pub part-higher : turn % 2 ≡ 0 → edges ≡ at a → part ≡ partIn (ltb turn 2) k edges → part ≡ partAt at ends k turn
+  unfolding partAt
+  part-higher t e f = rw (eq-eqb (turn % 2) 0 t, ← p, ← e) f
+
+  pub part-lower : (turn % 2 ≡ 0 → ⊥) → (a ≡ b → ⊥) → edges ≡ at b → part ≡ partIn (ltb turn 2) k edges → part ≡ partAt at ends k turn
+  unfolding partAt
+  part-lower t d e f = rw (ne-eqb (turn % 2) 0 t, other-apart ends k (λ r. d (p ∙ (r ∙ sym q))), ← q, ← e) f
+
+pub part-none : (at : ℕ → List ℕ) (ends : List ℕ) (k turn a b : ℕ) → a ≡ higherEnd ends k → b ≡ lowerEnd ends k → (turn % 2 ≡ 0 → ⊥) → a ≡ b → [] ≡ partAt at ends k turn
+unfolding partAt
+part-none at ends k turn a b p q t e = rw (ne-eqb (turn % 2) 0 t, same-loop ends k (sym p ∙ (e ∙ q)))
+
+part-member : (later : Bool) (ends : List ℕ) (k v j : ℕ) → Mem j (partIn later k (edgesAt ends (edgeCount ends) v)) → j < edgeCount ends
+unfolding partIn
+part-member true ends k v j p = edge-at ends (edgeCount ends) v j (after-member k j (edgesAt ends (edgeCount ends) v) (edges-at-nodup ends (edgeCount ends) v) p .0) .0
+part-member false ends k v j p = edge-at ends (edgeCount ends) v j (before-member k j (edgesAt ends (edgeCount ends) v) p .0) .0
+
+-- Over a table the edges at a node are those of the graph.
+module _ (items : Items) (ends starts entries : List ℕ) (k : ℕ) (kind : items .edges ≡ true) (known : Tabled items ends starts entries) (few : k < items .count) where
+  less : k < edgeCount ends
+  less = omega (arith, edges-count items ends starts entries known kind)
+
+  row-higher : stretch starts entries (higherEnd ends k) ≡ edgesAt ends (edgeCount ends) (higherEnd ends k)
+  row-higher = known .table .row (higherEnd ends k) (ends-cases (λ (x y : ℕ). x < items .nodes) ends k (passed-inside (items .nodes) ends (known .passed) k less .1) (passed-inside (items .nodes) ends (known .passed) k less .0))
+
+  row-lower : stretch starts entries (lowerEnd ends k) ≡ edgesAt ends (edgeCount ends) (lowerEnd ends k)
+  row-lower = known .table .row (lowerEnd ends k) (ends-cases (λ (x y : ℕ). y < items .nodes) ends k (passed-inside (items .nodes) ends (known .passed) k less .0) (passed-inside (items .nodes) ends (known .passed) k less .1))
+
+  pub part-below : (turn : ℕ) (part : List ℕ) → part ≡ partAt (stretch starts entries) ends k turn → (j : ℕ) → Mem j part → j < items .count
+  unfolding partAt
+  part-below turn part e j m =
+      let p : Mem j (partAt (stretch starts entries) ends k turn) = subst (Mem j) e m in
+      rw (edges-count items ends starts entries known kind) (by-test (eqb (turn % 2) 0)
+      (λ t. part-member (ltb turn 2) ends k (higherEnd ends k) j (rw (t, row-higher) at p))
+      (λ t. by-test (isLoop ends k)
+      (λ u. absurd (rw (t, u) at p))
+      (λ u. part-member (ltb turn 2) ends k (lowerEnd ends k) j (rw (t, u, row-lower) at p))))
+
+  parts-line : partsTo (stretch starts entries) ends k 4 ≡ lineNeighbors ends (edgeCount ends) k
+  unfolding partsTo partAt partIn laterAt earlierAt
+  parts-line = rw (row-higher, row-lower) (by-test (isLoop ends k)
+      (λ t. rw (t, loop-higher ends k t) (simp append-nil (sym (loop-neighbors ends (edgeCount ends) k t))))
+      (λ t. rw t (simp append-assoc (simp append-assoc at (sym (apart-neighbors ends (edgeCount ends) k t))))))
+
+  pub parts-all : partsTo (stretch starts entries) ends k 4 ≡ neighborsOf items ends k
+  parts-all = parts-line ∙ (sym (edge-neighbors (items .nodes) ends (known .passed) k less) ∙ sym (edges-neighbors items ends k kind))
+
+-- ---- putting off part by part
+
+module _ (m : ℕ) (s : Lists) (listed place next : List ℕ) (len end : ℕ) (at : ℕ → List ℕ) (ends : List ℕ) (k : ℕ) where
+  pub parts-none : Held m listed place next len end s → Held m listed place next len end (putOffAll s (partsTo at ends k 0))
+  unfolding partsTo putOffAll
+  parts-none h = h
+
+  pub parts-more : (turn : ℕ) (part : List ℕ) → part ≡ partAt at ends k turn → Held m listed place next len end (putOffAll s (partsTo at ends k turn))
+      → (listed′ place′ next′ : List ℕ) (len′ end′ : ℕ) → Held m listed′ place′ next′ len′ end′ (putOffAll (listsAt listed next len end) (reverse part))
+      → Held m listed′ place′ next′ len′ end′ (putOffAll s (partsTo at ends k (turn + 1)))
+  unfolding partsTo
+  parts-more turn part e h listed′ place′ next′ len′ end′ g =
+      rw (add-one turn, ← e, put-off-append s (partsTo at ends k turn) (reverse part)) (rw (lists-held m listed place next len end (putOffAll s (partsTo at ends k turn)) h) at g)
+
+  pub parts-done : (turn : ℕ) (all : List ℕ) → turn ≤ 4 → 4 ≤ turn → partsTo at ends k 4 ≡ all → Held m listed place next len end (putOffAll s (partsTo at ends k turn)) → Held m listed place next len end (putOffAll s all)
+  parts-done turn all a b e h = let f : turn ≡ 4 = omega arith in subst (λ (l : List ℕ). Held m listed place next len end (putOffAll s l)) (ap (partsTo at ends k) f ∙ e) h

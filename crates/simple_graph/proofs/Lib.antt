@@ -1,0 +1,4 @@
+-- Laws of what specs/ defines.
+pub mod Loops
+pub mod DoubleEdgesLaws
+pub mod SimpleLaws
