@@ -4,3 +4,4 @@ pub mod TwoColorLaws
 pub mod ComponentsLaws
 pub mod OddLaws
 pub mod WalkLaws
+pub mod OneBipartition
