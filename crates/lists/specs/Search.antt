@@ -1,9 +1,9 @@
--- Searching: whether every number of a list passes a test, and whether some number below n does.
+-- Searching: whether every number of a list is below n, which place has the first that passes a test, and whether some number below n passes it.
 use Prim.Native.Nat.{ℕ, zero, suc, _+_, _≤_, _<_}
 use mathlib.Core.Path.{_≡_, refl, sym, ap, _∙_}
 use mathlib.Core.Logic.{inl, inr}
 use mathlib.Core.List.{List, [], _∷_, _++_}
-use mathlib.Core.Bool.{Bool, true, false, _&&_, _||_, false≢true}
+use mathlib.Core.Bool.{Bool, true, false, _&&_, _||_, cond, false≢true}
 use native.Mathlib.Omega.{arith}
 use native.Mathlib.Numerals.{add-one}
 use native.Mathlib.Nat.{not-suc-le-zero}
@@ -57,6 +57,11 @@ all-below-broken n s i h b = rw (add-one i, below-more n s i h, le-ltb (getD s i
 
 pub all-below-all : (n : ℕ) (s : List ℕ) (i : ℕ) (r : Bool) → r ≡ allBelow n (take i s) → length s ≤ i → r ≡ allBelow n s
 all-below-all n s i r e h = e ∙ ap (allBelow n) (take-all i s h)
+
+-- The first place whose number passes the test: how many stand before it, all if none passes.
+unfoldable pub firstPlace : (ℕ → Bool) → List ℕ → ℕ
+firstPlace t [] = 0
+firstPlace t (x ∷ xs) = cond (t x) 0 (suc (firstPlace t xs))
 
 -- Whether some number below n passes the test.
 unfoldable pub any : (ℕ → Bool) → ℕ → Bool
