@@ -10,7 +10,8 @@ use Rattle.lists.specs.Member.{Mem, Nodup, dec-mem, pigeonhole}
 use Rattle.graph.specs.Edges.{farEnd, edgesAt, degree}
 use Rattle.graph.specs.EdgeLaws.{edge-at, at-edge}
 use Rattle.graph.specs.Colored.{noColor, colorOf}
-use Rattle.vizing.specs.MisraGries.{isFree, firstJoining, growFan, lastFarEnd, placesTo}
+use Rattle.vizing.specs.MisraGries.{isFree, firstJoining}
+use Rattle.vizing.specs.StepForm.{growFan, lastFarEnd, placesTo}
 use Rattle.graph.specs.ColoredLaws.{NoneHas}
 use Rattle.vizing.specs.DefinitionLaws.{some-or-none, is-free-true, is-free-false, first-joining-some, first-joining-none}
 use Rattle.vizing.specs.Coloring.{Free}
