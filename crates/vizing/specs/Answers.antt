@@ -15,7 +15,7 @@ use Rattle.vizing.specs.MisraGries.{edgeOfColor, isFree, store, joins, f
 
 unfoldable pub rows : List Row
 rows =
-    -- P13: (0,1),(1,2),(0,2),(2,3): 2,1,0,2
+    -- P13: (0,1),(1,2),(0,2),(2,3): 2,1,0,2; sees w one place too far
     record { outcome = misraGries 4 (0 ∷ 1 ∷ 1 ∷ 2 ∷ 0 ∷ 2 ∷ 2 ∷ 3 ∷ []) (9 ∷ 9 ∷ 9 ∷ 9 ∷ []); report = accepted 3; colors = 2 ∷ 1 ∷ 0 ∷ 2 ∷ [] }
     -- P14: (0,1),(1,0): 7
     ∷ record { outcome = misraGries 2 (0 ∷ 1 ∷ 1 ∷ 0 ∷ []) (9 ∷ 8 ∷ []); report = refused 7; colors = 9 ∷ 8 ∷ [] }
