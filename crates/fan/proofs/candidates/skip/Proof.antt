@@ -1,4 +1,5 @@
 -- `skip` meets its contract. The invariant: the place that the search from i on finds is what the search from the first place finds.
+-- The measure: the candidates still to be asked, length near - i; each turn passes over one.
 use Prim.Native.Nat.{_+_, _-_}
 use mathlib.Core.Path.{_≡_}
 use lib.ListN.{length, drop}
