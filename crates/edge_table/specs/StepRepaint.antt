@@ -10,7 +10,8 @@ use Rattle.lists.proofs.MemberLaws.{mem-append, map-mem}
 use Rattle.graph.specs.Edges.{farEnd, firstEnd}
 use Rattle.graph.specs.Color.{noColor}
 use Rattle.graph.specs.Colored.{colorOf}
-use Rattle.vizing.specs.MisraGries.{swap, exchange, rotate, find, step}
+use Rattle.vizing.specs.MisraGries.{swap, exchange, step}
+use Rattle.vizing.specs.StepForm.{rotatePlaces, stepParts, step-form}
 use Rattle.vizing.specs.Coloring.{Proper}
 use Rattle.vizing.specs.Simple.{Incident}
 use Rattle.vizing.specs.AlternatingPath.{swap-left, swap-right, Exchanged, path-edge, exchange-proper, exchange-colored}
@@ -50,9 +51,9 @@ exchange-repaintable ends m l u c d ks E nodup inside low-c low-d = record {
 }
 
 pub rotate-repaintable : (ends : List ℕ) (m : ℕ) (l T : List ℕ) (k : ℕ) (ks : List ℕ) (d : ℕ) → TableOf ends m l T
-    → Proper (Incident ends m) (colorOf (rotate l k ks d)) → Nodup (k ∷ ks) → ((j : ℕ) → Mem j (k ∷ ks) → j < m) → ((j : ℕ) → Mem j ks → colorOf l j ≢ noColor) → d < 576
+    → Proper (Incident ends m) (colorOf (rotatePlaces l k ks d)) → Nodup (k ∷ ks) → ((j : ℕ) → Mem j (k ∷ ks) → j < m) → ((j : ℕ) → Mem j ks → colorOf l j ≢ noColor) → d < 576
     → Repaintable ends m l (k ∷ ks) (rotatedColors l ks d)
-unfolding rotate
+unfolding rotatePlaces
 rotate-repaintable ends m l T k ks d L proper nodup inside colored low-d = record {
   nodup = nodup;
   inside = inside;
@@ -65,22 +66,21 @@ rotate-repaintable ends m l T k ks d L proper nodup inside colored low-d = recor
 }
 
 -- In the step of edge k: the exchange, then the rotation in the list that it leaves.
-module _ (ends : List ℕ) (m n : ℕ) (Ok : ℕ → Type 0) (low : (c : ℕ) → Ok c → c < 576) (l : List ℕ) (k : ℕ) (h : k < m) (F : FoundLaws ends m n Ok l k (find ends m n l k)) where
-  pub step-exchange : let f = find ends m n l k in Repaintable ends m l (f .path) (exchangedColors l (f .c) (f .d) (f .path))
-  unfolding find
+module _ (ends : List ℕ) (m n : ℕ) (Ok : ℕ → Type 0) (low : (c : ℕ) → Ok c → c < 576) (l : List ℕ) (k : ℕ) (h : k < m) (F : FoundLaws ends m n Ok l k (stepParts ends m n l k)) where
+  pub step-exchange : let f = stepParts ends m n l k in Repaintable ends m l (f .path) (exchangedColors l (f .c) (f .d) (f .path))
+  unfolding stepParts
   step-exchange =
-      let f = find ends m n l k in
+      let f = stepParts ends m n l k in
       exchange-repaintable ends m l (firstEnd ends k) (f .c) (f .d) (f .path) (F .exchange) (F .path-nodup) (λ j p. omega (arith, F .path-edges j p))
       (low (f .c) (F .allowed-c)) (low (f .d) (F .allowed-d))
 
   -- The fan's places are coloured: they come before k, and the exchange takes no edge's colour away.
-  pub step-rotation : (T : List ℕ) → TableOf ends m (find ends m n l k .exchanged) T → Invariant ends m Ok k l → Invariant ends m Ok (suc k) (step ends m n l k)
-      → let f = find ends m n l k in Repaintable ends m (f .exchanged) (k ∷ f .places) (rotatedColors (f .exchanged) (f .places) (f .d))
-  unfolding step
+  pub step-rotation : (T : List ℕ) → TableOf ends m (stepParts ends m n l k .exchanged) T → Invariant ends m Ok k l → Invariant ends m Ok (suc k) (step ends m n l k)
+      → let f = stepParts ends m n l k in Repaintable ends m (f .exchanged) (k ∷ f .places) (rotatedColors (f .exchanged) (f .places) (f .d))
   step-rotation T L I J =
-      let f = find ends m n l k in
+      let f = stepParts ends m n l k in
       let before : (j : ℕ) → Mem j (f .places) → j < k = λ j p. F .fan-edges j (F .places-in-fan j p) .0 in
-      rotate-repaintable ends m (f .exchanged) T k (f .places) (f .d) L (J .proper) (F .places-nodup)
+      rotate-repaintable ends m (f .exchanged) T k (f .places) (f .d) L (rw (step-form ends m n l k) at (J .proper)) (F .places-nodup)
       (λ j p. elim p [ inl z ↦ omega arith | inr q ↦ omega (arith, before j q) ])
       (λ j p. exchange-colored (F .exchange) j (λ z. omega (arith, low (colorOf l j) (I .done j (before j p)))))
       (low (f .d) (F .allowed-d))

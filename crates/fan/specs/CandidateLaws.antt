@@ -14,11 +14,12 @@ use borrow.Author.Tests.{eq-eqb, ne-eqb}
 use Rattle.lists.proofs.Tests.{by-test}
 use Rattle.lists.specs.Member.{Mem}
 use Rattle.lists.proofs.MemberLaws.{mem-append}
+use Rattle.lists.specs.Search.{firstPlace}
 use Rattle.graph.specs.Color.{noColor}
 use Rattle.graph.specs.Colored.{colorOf}
 use Rattle.graph.proofs.ColoredLaws.{colored-true, uncolored-false}
 use Rattle.edge_table.specs.EdgeTable.{isEmpty}
-use Rattle.fan.specs.Candidates.{firstThat, mayJoin, joinsMarked, placeThat, Passed}
+use Rattle.fan.specs.Candidates.{firstThat, mayJoin, joinsMarked, Passed}
 
 -- ---- the first that passes a test
 
@@ -79,33 +80,33 @@ unfolding Passed
 passed-none l M s near k p = absurd p
 
 -- The place, as the code goes on with it.
-module _ (t : ℕ → Bool) (ks : List ℕ) (i o : ℕ) (e : i + placeThat t (drop i ks) ≡ o) where
+module _ (t : ℕ → Bool) (ks : List ℕ) (i o : ℕ) (e : i + firstPlace t (drop i ks) ≡ o) where
   pub place-here : (r : Bool) → i < length ks → r ≡ t (getD ks i 0) → r ≡ true → i ≡ o
-  unfolding placeThat
+  unfolding firstPlace
   place-here r h p q = let z : i + 0 ≡ o = simp (drop-cons ks i 0 h, sym p ∙ q) at e in omega (arith, z)
 
-  pub place-next : (r : Bool) → i < length ks → r ≡ t (getD ks i 0) → r ≡ false → i + 1 + placeThat t (drop (i + 1) ks) ≡ o
-  unfolding placeThat
+  pub place-next : (r : Bool) → i < length ks → r ≡ t (getD ks i 0) → r ≡ false → i + 1 + firstPlace t (drop (i + 1) ks) ≡ o
+  unfolding firstPlace
   place-next r h p q =
-      let z : i + suc (placeThat t (drop (suc i) ks)) ≡ o = simp (drop-cons ks i 0 h, sym p ∙ q) at e in
+      let z : i + suc (firstPlace t (drop (suc i) ks)) ≡ o = simp (drop-cons ks i 0 h, sym p ∙ q) at e in
       rw (add-one i) (omega (arith, z))
 
   pub place-end : length ks ≤ i → i ≡ o
-  unfolding placeThat
+  unfolding firstPlace
   place-end h = let z : i + 0 ≡ o = simp (drop-of-length-le ks {i = i} h) at e in omega (arith, z)
 
 -- No number before the place passes.
-before-place : (t : ℕ → Bool) (ks : List ℕ) (k : ℕ) → Mem k (take (placeThat t ks) ks) → t k ≡ false
-unfolding placeThat
+before-place : (t : ℕ → Bool) (ks : List ℕ) (k : ℕ) → Mem k (take (firstPlace t ks) ks) → t k ≡ false
+unfolding firstPlace
 before-place t [] k p = absurd p
 before-place t (j ∷ ks) k p = by-test (t j)
     (λ u. absurd (simp u at p))
     (λ u. elim (simp u at p) [ inl z ↦ rw z u | inr z ↦ before-place t ks k z ])
 
-pub passed-skipped : (l M : List ℕ) (s : ℕ) (near : List ℕ) (from r : ℕ) → r ≡ from + placeThat (mayJoin l M s) (drop from near) → Passed l M s near from → Passed l M s near r
+pub passed-skipped : (l M : List ℕ) (s : ℕ) (near : List ℕ) (from r : ℕ) → r ≡ from + firstPlace (mayJoin l M s) (drop from near) → Passed l M s near from → Passed l M s near r
 unfolding Passed
 passed-skipped l M s near from r e passed k q =
-    let p = placeThat (mayJoin l M s) (drop from near) in
+    let p = firstPlace (mayJoin l M s) (drop from near) in
     elim (mem-append k (take from near) (take p (drop from near)) (rw (e, take-add from p near) at q)) [
       | inl z ↦ passed k z
       | inr z ↦ before-place (mayJoin l M s) (drop from near) k z

@@ -1,9 +1,9 @@
 -- The candidates of a fan as the code asks of them: by marks of the fan's edges, by the edge table, and from a place before which none may join.
-use Prim.Native.Nat.{ℕ, suc}
+use Prim.Native.Nat.{ℕ}
 use mathlib.Core.Path.{_≡_}
 use mathlib.Core.List.{List, [], _∷_}
 use mathlib.Core.Option.{Option, none, some}
-use mathlib.Core.Bool.{Bool, true, false, not, _&&_, cond}
+use mathlib.Core.Bool.{Bool, true, false, not, _&&_}
 use lib.ListN.{getD, take}
 use lib.Dec.{eqb}
 use Rattle.lists.specs.Member.{Mem}
@@ -29,11 +29,6 @@ mayJoin l M s k = not (eqb (getD M k 0) s) && isColored l k
 -- Edge k joins the fan whose edges have the mark s and whose last far end is x, by what the table T says.
 unfoldable pub joinsMarked : List ℕ → List ℕ → List ℕ → ℕ → ℕ → ℕ → Bool
 joinsMarked l T M s x k = mayJoin l M s k && isEmpty T x (colorOf l k)
-
--- The place of the first of these numbers that passes the test, or their end.
-unfoldable pub placeThat : (ℕ → Bool) → List ℕ → ℕ
-placeThat t [] = 0
-placeThat t (k ∷ ks) = cond (t k) 0 (suc (placeThat t ks))
 
 -- No candidate before place lo may join.
 unfoldable pub Passed : List ℕ → List ℕ → ℕ → List ℕ → ℕ → Type 0

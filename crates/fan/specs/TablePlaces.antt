@@ -1,4 +1,4 @@
--- The fan's places up to w as the edge table gives them, and that a right table gives the definition's.
+-- The fan's places up to w as the edge table gives them, and that a right table gives those of the theory.
 use Prim.Native.Nat.{ℕ, suc, _+_, _≤_, _<_}
 use mathlib.Core.Path.{_≡_, refl, sym, ap, _∙_}
 use mathlib.Core.Logic.{inl, inr}
@@ -11,7 +11,8 @@ use lib.Seq.{drop-cons}
 use Rattle.lists.proofs.Tests.{by-test}
 use Rattle.lists.specs.Member.{Mem}
 use Rattle.graph.specs.Edges.{farEnd, edgesAt}
-use Rattle.vizing.specs.MisraGries.{isFree, placesTo}
+use Rattle.vizing.specs.MisraGries.{isFree}
+use Rattle.vizing.specs.StepForm.{placesTo}
 use Rattle.edge_table.specs.EdgeTable.{isEmpty}
 
 -- The fan's edges after its first up to the first place whose far end has d free; place 0 has far end x.

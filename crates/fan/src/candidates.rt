@@ -7,7 +7,8 @@ use graph::NodeIndex;
 ghost use mathlib.Core.Path.{_≡_};
 ghost use Prim.Native.Nat.{_+_};
 ghost use lib.ListN.{getD, set, drop};
-ghost use Rattle.fan.specs.Candidates.{optionOf, firstThat, mayJoin, joinsMarked, placeThat};
+ghost use Rattle.lists.specs.Search.{firstPlace};
+ghost use Rattle.fan.specs.Candidates.{optionOf, firstThat, mayJoin, joinsMarked};
 
 // The candidate that joins next.
 pub enum Joining {
@@ -94,7 +95,7 @@ pub fn first_joining(
 
 // The first place from this one on whose candidate is coloured and not in the fan yet, or the end; from beyond the end, the place itself.
 pub fn skip(work: &[u16], marks: &[u16], stamp: u16, near: &[u16], from: usize) -> usize
-    ensures { λ r. ⌜ r ≡ from + placeThat (mayJoin (now (work .entry)) (now (marks .entry)) stamp) (drop from (now (near .entry))) ⌝ }
+    ensures { λ r. ⌜ r ≡ from + firstPlace (mayJoin (now (work .entry)) (now (marks .entry)) stamp) (drop from (now (near .entry))) ⌝ }
 {
     let mut i = from;
     while i < near.len() {

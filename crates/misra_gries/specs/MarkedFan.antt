@@ -1,17 +1,13 @@
--- The fan of an edge, and what the code grows it from: the marks and the edge table.
+-- What the code grows the fan of an edge from: the marks and the edge table.
 use Prim.Native.Nat.{ℕ, _≤_, _<_}
 use mathlib.Core.Path.{_≡_}
 use mathlib.Core.Logic.{_≢_}
-use mathlib.Core.List.{List, [], _∷_}
+use mathlib.Core.List.{List}
 use lib.ListN.{length, getD}
-use Rattle.graph.specs.Edges.{firstEnd, secondEnd, edgesAt}
+use Rattle.graph.specs.Edges.{firstEnd, edgesAt}
 use Rattle.graph.specs.Color.{noColor}
-use Rattle.vizing.specs.MisraGries.{isFree, growFan}
+use Rattle.vizing.specs.MisraGries.{isFree}
 use Rattle.edge_table.specs.EdgeTable.{isEmpty}
-
--- The fan of edge k, its first edge, at its first end.
-abbrev pub fanOf : List ℕ → ℕ → List ℕ → ℕ → List ℕ
-fanOf ends m l k = k ∷ growFan ends m 4096 l (firstEnd ends k) (k ∷ []) (secondEnd ends k)
 
 -- What the fan of edge k is grown from: its first end u, the edges at u, marks below the stamp s with a place for each edge, and a
 -- table that says of every colour at every node whether it is free in l.

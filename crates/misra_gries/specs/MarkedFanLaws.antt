@@ -4,7 +4,7 @@ use mathlib.Core.Path.{_≡_, refl, sym, ap, _∙_}
 use mathlib.Core.Logic.{inl, inr, _≢_}
 use mathlib.Core.List.{List, [], _∷_, _++_, append-assoc, append-nil}
 use mathlib.Core.Option.{none, some}
-use mathlib.Core.Bool.{true, false, not, _&&_}
+use mathlib.Core.Bool.{false, not, _&&_}
 use native.Mathlib.Omega.{arith}
 use native.Mathlib.Numerals.{add-one}
 use lib.ListN.{length, getD, set, take, drop, length-set, length-append, take-append-drop}
@@ -17,7 +17,8 @@ use Rattle.graph.specs.Edges.{firstEnd, secondEnd, farEnd, edgesAt, degree}
 use Rattle.graph.proofs.EdgeLaws.{far-first, edge-at, at-edge}
 use Rattle.graph.specs.Color.{noColor}
 use Rattle.graph.specs.Colored.{colorOf, isColored}
-use Rattle.vizing.specs.MisraGries.{isFree, joins, firstJoining, growFan}
+use Rattle.vizing.specs.MisraGries.{isFree, joins, firstJoining, fanOf}
+use Rattle.vizing.specs.StepForm.{growFan, fan-form}
 use Rattle.graph.proofs.ColoredLaws.{is-colored-true}
 use Rattle.vizing.specs.DefinitionLaws.{first-joining-some}
 use Rattle.vizing.specs.Simple.{Incident}
@@ -29,7 +30,7 @@ use Rattle.fan.specs.declared.candidates.Joining.{Joining}
 use Rattle.fan.specs.declared.candidates.Joining.the-variants.{Edge, Nothing}
 use Rattle.fan.specs.Candidates.{optionOf, firstThat, mayJoin, joinsMarked, Passed}
 use Rattle.fan.specs.CandidateLaws.{first-behind}
-use Rattle.misra_gries.specs.MarkedFan.{fanOf, FanReady}
+use Rattle.misra_gries.specs.MarkedFan.{FanReady}
 
 -- ---- an edge takes the mark
 
@@ -114,18 +115,21 @@ module _ (ends : List ℕ) (m : ℕ) (l T M₀ : List ℕ) (s : ℕ) (near : Lis
     size = R .size;
     next = R .edge;
     inside = omega arith;
-    follows = rw (R .node, far-first ends k (firstEnd ends k) refl);
+    follows = rw (R .node, far-first ends k (firstEnd ends k) refl) (sym (fan-form ends m l k));
   }
 
   -- Each edge at u is in the fan at most once.
   fan-short : length (fanOf ends m l k) ≤ 512
   unfolding degree
-  fan-short = omega (arith, few, fan-length ends m (firstEnd ends k) (fanOf ends m l k) (fan-nodup grown) (fan-at (grown-fan grown) (R .edge, inl refl)))
+  fan-short = rw (fan-form ends m l k) (omega (arith, few, fan-length ends m (firstEnd ends k) (k ∷ later) (fan-nodup grown) (fan-at (grown-fan grown) (R .edge, inl refl))))
     where
+      later : List ℕ
+      later = growFan ends m 4096 l (firstEnd ends k) (k ∷ []) (secondEnd ends k)
+
       few : length (edgesAt ends m (firstEnd ends k)) ≤ 512
       few = rw (← R .node, ← R .candidates) (R .few)
 
-      grown : Grown (Incident ends m) (farEnd ends) (firstEnd ends k) (colorOf l) (k ∷ []) k (growFan ends m 4096 l (firstEnd ends k) (k ∷ []) (secondEnd ends k))
+      grown : Grown (Incident ends m) (farEnd ends) (firstEnd ends k) (colorOf l) (k ∷ []) k later
       grown = rw (← far-first ends k (firstEnd ends k) refl)
           (fan-grown ends m l 4096 (firstEnd ends k) (k ∷ []) k (λ p. p, tt)
           (λ i p. elim p [ inl z ↦ rw z (at-edge ends m (firstEnd ends k) k (R .edge) (inl refl)) | inr q ↦ absurd q ])

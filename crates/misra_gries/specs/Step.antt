@@ -1,5 +1,5 @@
 -- What the step of one edge asks, and what it does.
-use Prim.Native.Nat.{ℕ, suc, _+_, _≤_, _<_}
+use Prim.Native.Nat.{ℕ, _+_, _≤_, _<_}
 use mathlib.Core.Path.{_≡_}
 use mathlib.Core.Logic.{_≢_}
 use mathlib.Core.List.{List}
@@ -9,13 +9,12 @@ use lib.Dec.{eqb}
 use Rattle.graph.specs.Edges.{edgeCount, firstEnd, secondEnd}
 use Rattle.graph.specs.Stretch.{Table}
 use Rattle.graph.specs.Color.{noColor}
-use Rattle.vizing.specs.MisraGries.{path, Found, find, step}
+use Rattle.vizing.specs.MisraGries.{fanOf, path, Found, find, step}
 use Rattle.vizing.specs.Demand3.{Admitted, maxDegree}
 use Rattle.vizing.specs.Step.{Invariant}
 use Rattle.edge_table.specs.TableOf.{TableOf}
 use Rattle.edge_table.specs.Repaint.{Repaintable}
 use Rattle.edge_table.specs.StepRepaint.{exchangedColors}
-use Rattle.misra_gries.specs.MarkedFan.{fanOf}
 
 -- The colours from 0 to D.
 abbrev pub InRange : ℕ → List ℕ → ℕ → Type 0

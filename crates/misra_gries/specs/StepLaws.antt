@@ -2,7 +2,7 @@
 use Prim.Native.Nat.{ℕ, suc, _+_, _-_, _*_, _≤_, _<_}
 use mathlib.Core.Path.{_≡_, refl, sym, ap, _∙_}
 use mathlib.Core.List.{List, [], _∷_, _++_}
-use mathlib.Core.Bool.{Bool, true, cond}
+use mathlib.Core.Bool.{Bool, true}
 use native.Mathlib.Omega.{arith}
 use native.Mathlib.Nat.{min-le-left}
 use lib.ListN.{length, getD, take, drop, length-append, length-take}
@@ -11,10 +11,11 @@ use borrow.Author.Tests.{eq-eqb, ne-eqb}
 use Rattle.graph.specs.Edges.{edgeCount, firstEnd, secondEnd, farEnd, edgesAt, degree}
 use Rattle.graph.specs.Stretch.{stretch}
 use Rattle.vizing.specs.SimpleDegree.{degree-below}
-use Rattle.misra_gries.specs.MarkedFan.{FanReady, fanOf}
+use Rattle.misra_gries.specs.MarkedFan.{FanReady}
 use Rattle.graph.proofs.EdgeLaws.{far-first}
 use Rattle.graph.specs.Colored.{smallestFreeAt}
-use Rattle.vizing.specs.MisraGries.{lastFarEnd, path, exchange, rotate, store, Found, find, step}
+use Rattle.vizing.specs.MisraGries.{lastOf, fanOf, path, exchange, store, find, step}
+use Rattle.vizing.specs.StepForm.{lastFarEnd, rotatePlaces, StepParts, stepParts, fan-form, last-form, find-form, step-form}
 use Rattle.vizing.specs.Store.{exchange-none}
 use Rattle.vizing.specs.Step.{Invariant, FoundLaws, found-laws, step-keeps}
 use Rattle.edge_table.specs.EdgeTable.{state, repainted, isEmpty, smallestEmpty}
@@ -103,20 +104,12 @@ fan-of-one ends l T (k ∷ j ∷ ks) d L R h l′ T′ s = let z : ⊥ = omega a
 
 -- ---- steps 2 to 5
 
--- The far end of the fan's last edge.
-last-far : (ends : List ℕ) (u x k : ℕ) (ks : List ℕ) → farEnd ends k u ≡ x → farEnd ends (getD (k ∷ ks) (length (k ∷ ks) - 1) 0) u ≡ lastFarEnd ends u x ks
-unfolding lastFarEnd
-last-far ends u x k [] e = let z : length (k ∷ []) - 1 ≡ 0 = omega arith in ap (λ (i : ℕ). farEnd ends (getD (k ∷ []) i 0) u) z ∙ e
-last-far ends u x k (j ∷ js) e =
-    let z : length (k ∷ j ∷ js) - 1 ≡ suc (length (j ∷ js) - 1) = omega arith in
-    ap (λ (i : ℕ). farEnd ends (getD (k ∷ j ∷ js) i 0) u) z ∙ last-far ends u (farEnd ends j u) j js refl
-
 module _ (n : ℕ) (ends l T fan : List ℕ) (k u v : ℕ) (G : Turning n ends l T fan k u v) where
   abbrev m : ℕ
   m = edgeCount ends
 
-  abbrev found : Found
-  found = find ends m n l k
+  abbrev found : StepParts
+  found = stepParts ends m n l k
 
   found-of : FoundLaws ends m n (InRange n ends) l k found
   found-of = let a = G .admitted in found-laws ends m n (InRange n ends) (a .simple) (a .inside) (a .edges) (palette n ends a) l k (G .edge) (G .kept)
@@ -125,26 +118,29 @@ module _ (n : ℕ) (ends l T fan : List ℕ) (k u v : ℕ) (G : Turning n ends l
   low c h = omega (arith, h, max-degree-below n ends (G .admitted))
 
   fan-is : fan ≡ k ∷ found .fan
-  unfolding find
-  fan-is = G .fan-of
+  unfolding stepParts
+  fan-is = G .fan-of ∙ fan-form ends m l k
 
   pub turn-fan : 1 ≤ length fan
   turn-fan = rw fan-is (omega arith)
 
   module _ (e c d : ℕ) (pe : e ≡ farEnd ends (getD fan (length fan - 1) 0) u) (pc : c ≡ smallestEmpty T u) (pd : d ≡ smallestEmpty T e) where
     last-is : e ≡ lastFarEnd ends (firstEnd ends k) (secondEnd ends k) (found .fan)
-    last-is = pe ∙ (rw (fan-is, G .first) (last-far ends (firstEnd ends k) (secondEnd ends k) k (found .fan) (far-first ends k (firstEnd ends k) refl)))
+    unfolding lastOf
+    last-is =
+        let first = firstEnd ends k in
+        pe ∙ (rw (fan-is, G .first) (last-form ends first k (found .fan) ∙ ap (λ (x : ℕ). lastFarEnd ends first x (found .fan)) (far-first ends k first refl)))
 
     c-is : c ≡ found .c
-    unfolding find
+    unfolding stepParts
     c-is = pc ∙ (says-smallest ends m l T (G .tabled) u ∙ ap (λ (x : ℕ). smallestFreeAt l (edgesAt ends m x)) (G .first))
 
     d-is : d ≡ found .d
-    unfolding find
+    unfolding stepParts
     d-is = pd ∙ (says-smallest ends m l T (G .tabled) e ∙ ap (λ (x : ℕ). smallestFreeAt l (edgesAt ends m x)) last-is)
 
     exchanging-found : Exchanging ends n l T (firstEnd ends k) (found .c) (found .d)
-    unfolding find
+    unfolding stepParts
     exchanging-found = record {
       tabled = G .tabled;
       nodes = G .admitted .nodes;
@@ -158,12 +154,12 @@ module _ (n : ℕ) (ends l T fan : List ℕ) (k u v : ℕ) (G : Turning n ends l
 
     module _ (l′ T′ : List ℕ) (x : (l′ ≡ exchange l c d (path ends m n l u d c)) × TableOf ends m l′ T′) where
       exchanged-is : l′ ≡ found .exchanged
-      unfolding find
+      unfolding stepParts
       exchanged-is = x .0 ∙ rw (G .first, c-is, d-is) refl
 
       module _ (r : ℕ) (pr : r ≡ 1 + length (tablePlaces ends T′ d u v (drop 1 fan))) where
         places-are : tablePlaces ends T′ d u v (found .fan) ≡ found .places
-        unfolding find
+        unfolding stepParts
         places-are =
             table-places ends m l′ T′ (λ w. Unit {0}) d (λ w t. says-free ends m l′ T′ (x .1) w d (λ z. omega (arith, d-is, low (found .d) (found-of .allowed-d)))) u v (found .fan) tt (λ j p. tt)
             ∙ rw (exchanged-is, d-is, G .first, G .second) refl
@@ -183,22 +179,26 @@ module _ (n : ℕ) (ends l T fan : List ℕ) (k u v : ℕ) (G : Turning n ends l
         pub turn-rotating : TableOf ends m l′ T′ × (Repaintable ends m l′ (take r fan) (rotatedColors l′ (drop 1 (take r fan)) d) × ((1 ≤ length (take r fan)) × (length (take r fan) ≤ 512)))
         turn-rotating = (x .1, (rw (taken .0) rotating, (rw (taken .0) (omega arith), omega (arith, sym turn-count, taken .1, G .small))))
 
-        pub turned : (l″ T″ : List ℕ) (color : ℕ) → (l″ ≡ store l′ (take r fan) (rotatedColors l′ (drop 1 (take r fan)) d)) × TableOf ends m l″ T″ → color ≡ topColor found → Turned n ends l k color l″ T″
-        unfolding step rotate
-        turned l″ T″ color s t = record { list = s .0 ∙ rw (taken .0, exchanged-is, d-is) refl; tabled = s .1; top = t }
+        pub turned : (l″ T″ : List ℕ) (color : ℕ) → (l″ ≡ store l′ (take r fan) (rotatedColors l′ (drop 1 (take r fan)) d)) × TableOf ends m l″ T″ → color ≡ topColor (find ends m n l k) → Turned n ends l k color l″ T″
+        unfolding rotatePlaces
+        turned l″ T″ color s t = record { list = s .0 ∙ rw (taken .0, exchanged-is, d-is) (sym (step-form ends m n l k)); tabled = s .1; top = t }
 
     path-is : path ends m n l u d c ≡ found .path
-    unfolding find
+    unfolding stepParts
     path-is = rw (G .first, c-is, d-is) refl
 
     -- The one new colour that may be the greatest.
-    pub top-none : (len : ℕ) → len ≡ length (path ends m n l u d c) → len ≡ 0 → d ≡ topColor found
+    pub top-none : (len : ℕ) → len ≡ length (path ends m n l u d c) → len ≡ 0 → d ≡ topColor (find ends m n l k)
     unfolding topColor
-    top-none len p z = d-is ∙ sym (ap (λ (b : Bool). cond b (found .d) (found .c)) (eq-eqb (length (found .path)) 0 (sym (p ∙ ap length path-is) ∙ z)))
+    top-none len p z =
+        let s = find-form ends m n l k in
+        rw (s .path, s .c, s .d, eq-eqb (length (found .path)) 0 (sym (p ∙ ap length path-is) ∙ z)) d-is
 
-    pub top-some : (len : ℕ) → len ≡ length (path ends m n l u d c) → (len ≡ 0 → ⊥) → c ≡ topColor found
+    pub top-some : (len : ℕ) → len ≡ length (path ends m n l u d c) → (len ≡ 0 → ⊥) → c ≡ topColor (find ends m n l k)
     unfolding topColor
-    top-some len p z = c-is ∙ sym (ap (λ (b : Bool). cond b (found .d) (found .c)) (ne-eqb (length (found .path)) 0 (λ q. z ((p ∙ ap length path-is) ∙ q))))
+    top-some len p z =
+        let s = find-form ends m n l k in
+        rw (s .path, s .c, s .d, ne-eqb (length (found .path)) 0 (λ q. z ((p ∙ ap length path-is) ∙ q))) c-is
 
 -- ---- the step
 

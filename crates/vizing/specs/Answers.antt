@@ -1,22 +1,21 @@
 -- The proof sheet's rows of misra_gries_edge_color, with cases that see what they miss, and a tally.
-use Prim.Native.Nat.{ℕ}
 use mathlib.Core.Bool.{true}
 use mathlib.Core.List.{List, [], _∷_}
 use mathlib.Core.Path.{_≡_, refl}
 use Rattle.lists.specs.Member.{elem}
 use Rattle.lists.specs.Equal.{equal}
-use Rattle.lists.specs.Search.{any, allBelow}
+use Rattle.lists.specs.Search.{any, allBelow, firstPlace}
 use Rattle.graph.specs.Report.{accepted, refused}
 use Rattle.graph.specs.Rows.{Row, sameReport, holds, allHold}
 use Rattle.graph.specs.Check.{firstRefusal, answered, written, graphChecks}
 use Rattle.graph.specs.Edges.{firstEnd, secondEnd, isLoop, farEnd, secondAt, firstEdges, secondEdges, edgesAt}
 use Rattle.graph.specs.Color.{colored, daysOf, smallestFree, smallestFrom}
 use Rattle.graph.specs.Colored.{colorOf, isColored, coloredAmong, smallestFreeAt}
-use Rattle.vizing.specs.MisraGries.{edgeOfColor, isFree, store, joins, firstJoining, growFan, lastFarEnd, path, swap, exchange, placesTo, rotate, Tally, greatestColor, find, step, stepHeld, heldAfter, held, hasLoop, sameEnds, hasDoubleEdge, misraGriesChecks, misraGries}
+use Rattle.vizing.specs.MisraGries.{edgeOfColor, isFree, store, joins, firstJoining, lastOf, fanFrom, fanOf, path, swap, exchange, firstFreePlace, rotate, Tally, greatestColor, find, step, stepHeld, heldAfter, held, hasLoop, sameEnds, hasDoubleEdge, misraGriesChecks, misraGries}
 
 unfoldable pub rows : List Row
 rows =
-    -- P13: (0,1),(1,2),(0,2),(2,3): 2,1,0,2
+    -- P13: (0,1),(1,2),(0,2),(2,3): 2,1,0,2; sees w one place too far
     record { outcome = misraGries 4 (0 ∷ 1 ∷ 1 ∷ 2 ∷ 0 ∷ 2 ∷ 2 ∷ 3 ∷ []) (9 ∷ 9 ∷ 9 ∷ 9 ∷ []); report = accepted 3; colors = 2 ∷ 1 ∷ 0 ∷ 2 ∷ [] }
     -- P14: (0,1),(1,0): 7
     ∷ record { outcome = misraGries 2 (0 ∷ 1 ∷ 1 ∷ 0 ∷ []) (9 ∷ 8 ∷ []); report = refused 7; colors = 9 ∷ 8 ∷ [] }
@@ -31,7 +30,7 @@ rows =
     ∷ []
 
 pub examples : allHold rows ≡ true
-unfolding allHold rows holds sameReport equal colored daysOf graphChecks firstRefusal answered written allBelow elem any firstEnd secondEnd isLoop farEnd secondAt firstEdges secondEdges edgesAt smallestFree smallestFrom colorOf isColored edgeOfColor isFree coloredAmong smallestFreeAt store joins firstJoining growFan lastFarEnd path swap exchange placesTo rotate greatestColor find step stepHeld heldAfter held hasLoop sameEnds hasDoubleEdge misraGriesChecks misraGries
+unfolding allHold rows holds sameReport equal colored daysOf graphChecks firstRefusal answered written allBelow elem any firstEnd secondEnd isLoop farEnd secondAt firstEdges secondEdges edgesAt smallestFree smallestFrom colorOf isColored edgeOfColor isFree coloredAmong smallestFreeAt store joins firstJoining lastOf fanFrom fanOf path swap exchange firstPlace firstFreePlace rotate greatestColor find step stepHeld heldAfter held hasLoop sameEnds hasDoubleEdge misraGriesChecks misraGries
 examples = refl
 
 -- The tally of P13's run after its last edge: 4 edges coloured, the greatest colour 2.
@@ -39,5 +38,5 @@ abbrev tallyP13 : Tally
 tallyP13 = heldAfter (0 ∷ 1 ∷ 1 ∷ 2 ∷ 0 ∷ 2 ∷ 2 ∷ 3 ∷ []) 4 4 4 .tally
 
 pub tally-example : (tallyP13 .edges ≡ 4) × (tallyP13 .greatest ≡ 2)
-unfolding elem firstEnd secondEnd isLoop farEnd secondAt firstEdges secondEdges edgesAt smallestFree smallestFrom colorOf isColored edgeOfColor isFree coloredAmong smallestFreeAt store joins firstJoining growFan lastFarEnd path swap exchange placesTo rotate greatestColor find step stepHeld heldAfter
+unfolding elem firstEnd secondEnd isLoop farEnd secondAt firstEdges secondEdges edgesAt smallestFree smallestFrom colorOf isColored edgeOfColor isFree coloredAmong smallestFreeAt store joins firstJoining lastOf fanFrom fanOf path swap exchange firstPlace firstFreePlace rotate greatestColor find step stepHeld heldAfter
 tally-example = (refl, refl)

@@ -6,12 +6,12 @@ use mathlib.Core.List.{List, [], _∷_}
 use native.Mathlib.Omega.{arith}
 use lib.ListN.{take, replicate}
 use Rattle.lists.specs.Member.{elem}
-use Rattle.lists.specs.Search.{allBelow, any}
+use Rattle.lists.specs.Search.{allBelow, any, firstPlace}
 use Rattle.graph.specs.Edges.{firstEnd, secondEnd, isLoop, farEnd, secondAt, firstEdges, secondEdges, edgesAt, degree}
 use Rattle.graph.specs.Check.{firstRefusal, graphChecks}
 use Rattle.graph.specs.Color.{smallestFrom, smallestFree, noColor}
 use Rattle.graph.specs.Colored.{colorOf, isColored, coloredAmong, smallestFreeAt}
-use Rattle.vizing.specs.MisraGries.{edgeOfColor, isFree, store, joins, firstJoining, growFan, lastFarEnd, path, swap, exchange, placesTo, rotate, find, step, stepHeld, heldAfter, held, hasLoop, sameEnds, hasDoubleEdge, misraGriesChecks, misraGries}
+use Rattle.vizing.specs.MisraGries.{edgeOfColor, isFree, store, joins, firstJoining, lastOf, fanFrom, fanOf, path, swap, exchange, firstFreePlace, rotate, find, step, stepHeld, heldAfter, held, hasLoop, sameEnds, hasDoubleEdge, misraGriesChecks, misraGries}
 use Rattle.vizing.specs.Simple.{Incident}
 use Rattle.vizing.specs.Demand3.{maxDegree, Admitted}
 use Rattle.vizing.specs.Checks.{passed-admitted}
@@ -51,7 +51,7 @@ pub runs :
     × (take 1 (held 4 listP13 1) ≡ 0 ∷ [])
     × (take 3 (held 4 listP13 3) ≡ 0 ∷ 1 ∷ 2 ∷ [])
     × (take 4 (held 4 listP13 4) ≡ 2 ∷ 1 ∷ 0 ∷ 2 ∷ [])
-unfolding held heldAfter stepHeld step find rotate placesTo exchange swap path lastFarEnd growFan firstJoining joins elem store smallestFreeAt smallestFree smallestFrom coloredAmong isFree edgeOfColor isColored colorOf edgesAt firstEdges secondEdges secondAt isLoop farEnd firstEnd secondEnd
+unfolding held heldAfter stepHeld step find rotate firstFreePlace firstPlace exchange swap path fanOf fanFrom lastOf firstJoining joins elem store smallestFreeAt smallestFree smallestFrom coloredAmong isFree edgeOfColor isColored colorOf edgesAt firstEdges secondEdges secondAt isLoop farEnd firstEnd secondEnd
 runs = (refl, refl, refl, refl)
 
 -- ---- D + 1 colours are needed

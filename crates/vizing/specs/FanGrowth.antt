@@ -12,7 +12,8 @@ use Rattle.graph.specs.Edges.{farEnd, edgesAt, degree}
 use Rattle.graph.proofs.EdgeLaws.{edge-at, at-edge}
 use Rattle.graph.specs.Color.{noColor}
 use Rattle.graph.specs.Colored.{colorOf}
-use Rattle.vizing.specs.MisraGries.{isFree, firstJoining, growFan, lastFarEnd, placesTo}
+use Rattle.vizing.specs.MisraGries.{isFree, firstJoining}
+use Rattle.vizing.specs.StepForm.{growFan, lastFarEnd, placesTo}
 use Rattle.graph.proofs.ColoredLaws.{NoneHas}
 use Rattle.vizing.specs.DefinitionLaws.{some-or-none, is-free-true, is-free-false, first-joining-some, first-joining-none}
 use Rattle.vizing.specs.Coloring.{Free}

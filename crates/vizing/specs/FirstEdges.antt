@@ -14,7 +14,8 @@ use Rattle.lists.specs.Member.{Mem}
 use Rattle.graph.specs.Edges.{edgeCount, firstEnd, secondEnd, isLoop, farEnd, secondAt, firstEdges, secondEdges, edgesAt}
 use Rattle.graph.specs.Color.{smallestFree, noColor}
 use Rattle.graph.specs.Colored.{colorOf, isColored, coloredAmong, smallestFreeAt}
-use Rattle.vizing.specs.MisraGries.{edgeOfColor, isNone, isFree, joins, firstJoining, growFan, lastFarEnd, path, placesTo, find, step, Held, stepHeld, heldAfter, held}
+use Rattle.vizing.specs.MisraGries.{edgeOfColor, isNone, isFree, joins, firstJoining, path, step, Held, stepHeld, heldAfter, held}
+use Rattle.vizing.specs.StepForm.{growFan, lastFarEnd, placesTo, stepParts, step-form}
 use Rattle.graph.proofs.ColoredLaws.{is-colored-true, is-colored-false, colored-edges-append, colored-edges-keep}
 use Rattle.vizing.specs.DefinitionLaws.{some-or-none, edge-of-color-some, false-joins, first-joining-some}
 use Rattle.vizing.specs.LaterEdges.{UncoloredFrom, colored-before, free-color, fan-before, exchanged-uncolored, held-length, held-uncolored}
@@ -153,10 +154,10 @@ module _ (first ends : List ℕ) (K : ℕ) (agree : (j : ℕ) → j < K → (fir
         (λ t. rw (e, t, placesTo, far-end-agree k u (before k (inl refl)), places-agree d u (farEnd ends k u) fan nd (λ j p. before j (inr p))))
 
   module _ (m n : ℕ) (K≤m : K ≤ m) where
-    find-agree : (l : List ℕ) → length l < noColor → UncoloredFrom l K → (k : ℕ) → k < K → find first K n l k ≡ find ends m n l k
-    unfolding find
-    find-agree l few rest k h =
-        let f = find ends m n l k in
+    parts-agree : (l : List ℕ) → length l < noColor → UncoloredFrom l K → (k : ℕ) → k < K → stepParts first K n l k ≡ stepParts ends m n l k
+    unfolding stepParts
+    parts-agree l few rest k h =
+        let f = stepParts ends m n l k in
         let u = firstEnd ends k in
         let v = secondEnd ends k in
         let x = lastFarEnd ends u v (f .fan) in
@@ -174,8 +175,7 @@ module _ (first ends : List ℕ) (K : ℕ) (agree : (j : ℕ) → j < K → (fir
         )
 
     step-agree : (l : List ℕ) → length l < noColor → UncoloredFrom l K → (k : ℕ) → k < K → step first K n l k ≡ step ends m n l k
-    unfolding step
-    step-agree l few rest k h = rw (find-agree l few rest k h)
+    step-agree l few rest k h = rw (step-form first K n l k, step-form ends m n l k, parts-agree l few rest k h)
 
     held-agree : (k : ℕ) → k ≤ K → heldAfter first K n k ≡ heldAfter ends m n k
     unfolding heldAfter stepHeld

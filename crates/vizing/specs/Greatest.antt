@@ -15,7 +15,8 @@ use Rattle.lists.proofs.MemberLaws.{dec-mem}
 use Rattle.graph.specs.Edges.{firstEnd, secondEnd}
 use Rattle.graph.specs.Color.{noColor}
 use Rattle.graph.specs.Colored.{colorOf}
-use Rattle.vizing.specs.MisraGries.{greatestColor, Found, find, step}
+use Rattle.vizing.specs.MisraGries.{greatestColor, find, step}
+use Rattle.vizing.specs.StepForm.{StepParts, stepParts, find-form}
 use Rattle.vizing.specs.Simple.{Simple}
 use Rattle.vizing.specs.AlternatingPath.{swap-left, swap-right, path-edge, Exchanged, starts-with-d, at-start, exchange-uncolored}
 use Rattle.vizing.specs.Fan.{lastEdge}
@@ -122,8 +123,8 @@ rotation-from {k = k} {ks = ks} R nodup i = elim (dec-mem i (k ∷ ks)) [
 
 module _ (ends : List ℕ) (m n : ℕ) (Ok : ℕ → Type 0) (S : Simple ends m) (inside : (k : ℕ) → k < m → (firstEnd ends k < n) × (secondEnd ends k < n)) (small : m ≤ 4096)
     (P : Palette ends m n Ok) (l : List ℕ) (k : ℕ) (h : k < m) (I : Invariant ends m Ok k l) where
-  abbrev found : Found
-  found = find ends m n l k
+  abbrev found : StepParts
+  found = stepParts ends m n l k
 
   abbrev after : List ℕ
   after = step ends m n l k
@@ -167,7 +168,7 @@ module _ (ends : List ℕ) (m n : ℕ) (Ok : ℕ → Type 0) (S : Simple ends m)
 
   -- Either the path is empty and only d can be new, or its first edge had d and only c can be new.
   pub greatest-step : greatestColor (step ends m n l k) ≡ max (greatestColor l) (cond (eqb (length (find ends m n l k .path)) 0) (find ends m n l k .d) (find ends m n l k .c))
-  greatest-step = raised (found .path) refl
+  greatest-step = let s = find-form ends m n l k in rw (s .path, s .c, s .d) (raised (found .path) refl)
 
   pub greatest-grows : greatestColor l ≤ greatestColor (step ends m n l k)
   greatest-grows = rw greatest-step (omega arith)

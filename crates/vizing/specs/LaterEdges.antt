@@ -1,6 +1,6 @@
 -- The step of an edge changes colours of that edge and of coloured edges only, so the edges after it stay without a colour.
 use Prim.Native.Nat.{ℕ, zero, suc, _≤_, _<_}
-use mathlib.Core.Path.{_≡_, _∙_}
+use mathlib.Core.Path.{_≡_, ap, _∙_}
 use mathlib.Core.Logic.{inl, inr, _≢_}
 use mathlib.Core.List.{List, [], _∷_, _++_, map}
 use native.Mathlib.Omega.{arith}
@@ -13,7 +13,8 @@ use Rattle.graph.specs.Edges.{firstEnd, secondEnd, farEnd, edgesAt}
 use Rattle.graph.proofs.EdgeLaws.{edges-at-nodup}
 use Rattle.graph.specs.Color.{noColor}
 use Rattle.graph.specs.Colored.{colorOf, isColored, coloredAmong, smallestFreeAt}
-use Rattle.vizing.specs.MisraGries.{edgeOfColor, isFree, store, firstJoining, growFan, lastFarEnd, path, swap, exchange, placesTo, rotate, find, step, stepHeld, heldAfter}
+use Rattle.vizing.specs.MisraGries.{edgeOfColor, isFree, store, firstJoining, path, swap, exchange, step, stepHeld, heldAfter}
+use Rattle.vizing.specs.StepForm.{growFan, lastFarEnd, placesTo, rotatePlaces, stepParts, step-form}
 use Rattle.graph.proofs.ColoredLaws.{colored-inside, color-replicate, colored-edge, smallest-free-colored}
 use Rattle.vizing.specs.DefinitionLaws.{some-or-none, edge-of-color-some, first-joining-some, length-store, color-store-other}
 
@@ -79,17 +80,18 @@ store-uncolored l ks cs k rest before j h = color-store-other l ks cs j (λ p. l
 
 module _ (ends : List ℕ) (m n : ℕ) where
   pub step-length : (l : List ℕ) (k : ℕ) → length (step ends m n l k) ≡ length l
-  unfolding step find rotate exchange
+  unfolding stepParts rotatePlaces exchange
   step-length l k =
-      let f = find ends m n l k in
-      length-store (f .exchanged) (k ∷ f .places) (map (colorOf (f .exchanged)) (f .places) ++ (f .d ∷ []))
+      let f = stepParts ends m n l k in
+      ap length (step-form ends m n l k)
+      ∙ length-store (f .exchanged) (k ∷ f .places) (map (colorOf (f .exchanged)) (f .places) ++ (f .d ∷ []))
       ∙ length-store l (f .path) (map (λ (j : ℕ). swap (f .c) (f .d) (colorOf l j)) (f .path))
 
   module _ (l : List ℕ) (few : length l < noColor) (k : ℕ) where
-    pub exchanged-uncolored : (from : ℕ) → UncoloredFrom l from → UncoloredFrom (find ends m n l k .exchanged) from
-    unfolding find exchange
+    pub exchanged-uncolored : (from : ℕ) → UncoloredFrom l from → UncoloredFrom (stepParts ends m n l k .exchanged) from
+    unfolding stepParts exchange
     exchanged-uncolored from rest =
-        let f = find ends m n l k in
+        let f = stepParts ends m n l k in
         let u = firstEnd ends k in
         let nc = free-color ends m l few u in
         let nd = free-color ends m l few (lastFarEnd ends u (secondEnd ends k) (f .fan)) in
@@ -97,20 +99,21 @@ module _ (ends : List ℕ) (m n : ℕ) where
         (λ j p. colored-before l from rest j (path-colored ends m l n u (f .d) (f .c) nd nc j p))
 
     -- Where no edge from `from` on is coloured, the edges that join the fan come before it.
-    pub fan-before : (from : ℕ) → UncoloredFrom l from → (j : ℕ) → Mem j (find ends m n l k .fan) → j < from
-    unfolding find
+    pub fan-before : (from : ℕ) → UncoloredFrom l from → (j : ℕ) → Mem j (stepParts ends m n l k .fan) → j < from
+    unfolding stepParts
     fan-before from rest j p = colored-before l from rest j (fan-colored ends m l 4096 (firstEnd ends k) (k ∷ []) (secondEnd ends k) j p)
 
     pub step-uncolored : UncoloredFrom l k → UncoloredFrom (step ends m n l k) (suc k)
-    unfolding step rotate find
+    unfolding rotatePlaces stepParts
     step-uncolored rest =
-        let f = find ends m n l k in
-        store-uncolored (f .exchanged) (k ∷ f .places) (map (colorOf (f .exchanged)) (f .places) ++ (f .d ∷ [])) (suc k)
+        let f = stepParts ends m n l k in
+        rw (step-form ends m n l k)
+        (store-uncolored (f .exchanged) (k ∷ f .places) (map (colorOf (f .exchanged)) (f .places) ++ (f .d ∷ [])) (suc k)
         (λ j h. exchanged-uncolored k rest j (omega arith))
         (λ j p. elim p [
           | inl q ↦ omega arith
           | inr q ↦ omega (arith, fan-before k rest j (places-in-fan ends m _ _ _ _ (f .fan) j q))
-        ])
+        ]))
 
   -- ---- the run
 

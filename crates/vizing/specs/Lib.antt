@@ -2,6 +2,7 @@
 pub mod MisraGries
 pub mod Answers
 pub mod DefinitionLaws
+pub mod StepForm
 pub mod Store
 pub mod Simple
 -- one step keeps a proper colouring within D + 1 colours

@@ -1,12 +1,12 @@
 -- Misra-Gries edge colouring as executable definitions, in the words of 01's steps 1 to 5.
-use Prim.Native.Nat.{ℕ, zero, suc, _+_}
+use Prim.Native.Nat.{ℕ, zero, suc, _-_}
 use mathlib.Core.List.{List, [], _∷_, _++_, map}
 use mathlib.Core.Option.{Option, none, some}
 use mathlib.Core.Bool.{Bool, true, false, not, _&&_, _||_, cond}
-use lib.ListN.{length, set, take, replicate}
+use lib.ListN.{length, getD, set, take, drop, replicate}
 use lib.Dec.{eqb, ltb}
 use Rattle.lists.specs.Member.{elem}
-use Rattle.lists.specs.Search.{any}
+use Rattle.lists.specs.Search.{any, firstPlace}
 use Rattle.graph.specs.Edges.{edgeCount, firstEnd, secondEnd, isLoop, farEnd, edgesAt}
 use Rattle.graph.specs.Check.{Check, _gives_, graphChecks, lengthCheck}
 use Rattle.graph.specs.Color.{Outcome, colored, noColor}
@@ -44,21 +44,24 @@ unfoldable pub firstJoining : List ℕ → List ℕ → List ℕ → List ℕ �
 firstJoining l ks fan [] = none
 firstJoining l ks fan (k ∷ candidates) = elim (joins l ks fan k) [ true ↦ some k | false ↦ firstJoining l ks fan candidates ]
 
+-- "the fan's last edge"
+unfoldable pub lastOf : List ℕ → ℕ
+lastOf fan = getD fan (length fan - 1) 0
+
 module _ (ends : List ℕ) (m : ℕ) where
-  -- "Repeatedly the first candidate that" may "joins the fan, until none does": what joins at u after the edges of `fan`, whose last edge has far end x.
+  -- "Repeatedly the first candidate that" may "joins the fan, until none does": the fan at u that grows from this one.
   -- "Candidates are u's other edges in incidence order." Each joins once, so 4,096 turns are enough.
-  unfoldable pub growFan : ℕ → List ℕ → ℕ → List ℕ → ℕ → List ℕ
-  growFan zero l u fan x = []
-  growFan (suc fuel) l u fan x =
-      elim (firstJoining l (edgesAt ends m x) fan (edgesAt ends m u)) [
-        | none ↦ []
-        | some k ↦ k ∷ growFan fuel l u (k ∷ fan) (farEnd ends k u)
+  unfoldable pub fanFrom : ℕ → List ℕ → ℕ → List ℕ → List ℕ
+  fanFrom zero l u fan = fan
+  fanFrom (suc fuel) l u fan =
+      elim (firstJoining l (edgesAt ends m (farEnd ends (lastOf fan) u)) fan (edgesAt ends m u)) [
+        | none ↦ fan
+        | some k ↦ fanFrom fuel l u (fan ++ (k ∷ []))
       ]
 
--- The far end at u of the last of these edges, or x if there is none.
-unfoldable pub lastFarEnd : List ℕ → ℕ → ℕ → List ℕ → ℕ
-lastFarEnd ends u x [] = x
-lastFarEnd ends u x (k ∷ ks) = lastFarEnd ends u (farEnd ends k u) ks
+  -- "The fan begins with the edge": the fan of edge k, "u first end".
+  unfoldable pub fanOf : List ℕ → ℕ → List ℕ
+  fanOf l k = fanFrom 4096 l (firstEnd ends k) (k ∷ [])
 
 -- ---- step 3: the path and the exchange
 
@@ -79,27 +82,27 @@ exchange l c d ks = store l ks (map (λ (k : ℕ). swap c d (colorOf l k)) ks)
 -- ---- step 4: w
 
 module _ (ends : List ℕ) (m : ℕ) where
-  -- "w is the first fan place whose far end now has d free": the fan's edges after its first up to place w; place 0 has far end x.
-  unfoldable pub placesTo : List ℕ → ℕ → ℕ → ℕ → List ℕ → List ℕ
-  placesTo l d u x [] = []
-  placesTo l d u x (k ∷ ks) = elim (isFree l (edgesAt ends m x) d) [ true ↦ [] | false ↦ k ∷ placesTo l d u (farEnd ends k u) ks ]
+  -- "w is the first fan place whose far end now has d free": places are counted from 0.
+  unfoldable pub firstFreePlace : List ℕ → ℕ → ℕ → List ℕ → ℕ
+  firstFreePlace l d u fan = firstPlace (λ (k : ℕ). isFree l (edgesAt ends m (farEnd ends k u)) d) fan
 
 -- ---- step 5: the rotation
 
--- "Each fan place below w takes the colour of the next, place w takes d; all are read before any is stored": places 0 to w are k ∷ ks.
-unfoldable pub rotate : List ℕ → ℕ → List ℕ → ℕ → List ℕ
-rotate l k ks d = store l (k ∷ ks) (map (colorOf l) ks ++ (d ∷ []))
+-- "Each fan place below w takes the colour of the next, place w takes d; all are read before any is stored": places 0 to w take the colours
+-- of places 1 to w, then d.
+unfoldable pub rotate : List ℕ → List ℕ → ℕ → ℕ → List ℕ
+rotate l fan w d = store l (take (suc w) fan) (map (colorOf l) (take w (drop 1 fan)) ++ (d ∷ []))
 
 -- ---- the step of one edge
 
--- What steps 1 to 4 find: the fan after its first edge, c, d, the path, the list with the path exchanged, and the fan's places 1 to w.
+-- What steps 1 to 4 find: the fan, c and d, the path, the list with the path's edges exchanged, and w.
 pub record Found : Type 0 where
   pub fan : List ℕ
   pub c : ℕ
   pub d : ℕ
   pub path : List ℕ
   pub exchanged : List ℕ
-  pub places : List ℕ
+  pub w : ℕ
 
 -- "A tally (edges coloured, greatest colour that any edge now has; both 0 before the first edge)"
 pub record Tally : Type 0 where
@@ -117,21 +120,20 @@ pub record Held : Type 0 where
   pub tally : Tally
 
 module _ (ends : List ℕ) (m n : ℕ) where
-  -- Steps 1 to 4 for edge k, "u first end, v second".
+  -- Steps 1 to 4 for edge k, "u first end". "c is the smallest free colour at u, d that at the far end of the last fan edge."
   unfoldable pub find : List ℕ → ℕ → Found
   find l k =
       let u = firstEnd ends k in
-      let v = secondEnd ends k in
-      let F = growFan ends m 4096 l u (k ∷ []) v in
+      let F = fanOf ends m l k in
       let c = smallestFreeAt l (edgesAt ends m u) in
-      let d = smallestFreeAt l (edgesAt ends m (lastFarEnd ends u v F)) in
+      let d = smallestFreeAt l (edgesAt ends m (farEnd ends (lastOf F) u)) in
       let P = path ends m n l u d c in
       let l′ = exchange l c d P in
-      record { fan = F; c = c; d = d; path = P; exchanged = l′; places = placesTo ends m l′ d u v F }
+      record { fan = F; c = c; d = d; path = P; exchanged = l′; w = firstFreePlace ends m l′ d u F }
 
   -- Step 5.
   unfoldable pub step : List ℕ → ℕ → List ℕ
-  step l k = let f = find l k in rotate (f .exchanged) k (f .places) (f .d)
+  step l k = let f = find l k in rotate (f .exchanged) (f .fan) (f .w) (f .d)
 
   -- "brings it up to date after each edge"
   unfoldable pub stepHeld : Held → ℕ → Held

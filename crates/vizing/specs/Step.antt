@@ -1,6 +1,6 @@
 -- One step from any list that meets the invariant: what its parts are, and that the next list meets the invariant.
 use Prim.Native.Nat.{ℕ, suc, _≤_, _<_}
-use mathlib.Core.Path.{_≡_, refl, subst, _∙_}
+use mathlib.Core.Path.{_≡_, refl, ap, subst, _∙_}
 use mathlib.Core.Logic.{inl, inr, _≢_}
 use mathlib.Core.List.{List, [], _∷_}
 use native.Mathlib.Omega.{arith}
@@ -13,7 +13,8 @@ use Rattle.graph.proofs.EdgeLaws.{far-first, at-edge}
 use Rattle.graph.proofs.CountLaws.{degree-bound}
 use Rattle.graph.specs.Color.{noColor}
 use Rattle.graph.specs.Colored.{colorOf}
-use Rattle.vizing.specs.MisraGries.{growFan, lastFarEnd, placesTo, Found, find, step}
+use Rattle.vizing.specs.MisraGries.{step}
+use Rattle.vizing.specs.StepForm.{growFan, lastFarEnd, placesTo, StepParts, stepParts, step-form}
 use Rattle.vizing.specs.Coloring.{Graph, Free, Proper}
 use Rattle.vizing.specs.Simple.{Simple, Incident}
 use Rattle.vizing.specs.SimpleGraph.{simple-graph}
@@ -33,7 +34,7 @@ pub record Invariant (ends : List ℕ) (m : ℕ) (Ok : ℕ → Type 0) (k : ℕ)
   pub rest : (j : ℕ) → k ≤ j → colorOf l j ≡ noColor
 
 -- What is known of what the step of edge k finds in the list l, and of its exchange and its rotation.
-pub record FoundLaws (ends : List ℕ) (m n : ℕ) (Ok : ℕ → Type 0) (l : List ℕ) (k : ℕ) (found : Found) : Type 0 where
+pub record FoundLaws (ends : List ℕ) (m n : ℕ) (Ok : ℕ → Type 0) (l : List ℕ) (k : ℕ) (found : StepParts) : Type 0 where
   pub allowed-c : Ok (found .c)
   pub allowed-d : Ok (found .d)
   pub fan-nodup : Nodup (k ∷ found .fan)
@@ -66,8 +67,8 @@ module _ (ends : List ℕ) (m n : ℕ) (Ok : ℕ → Type 0) (S : Simple ends m)
     abbrev u : ℕ
     u = firstEnd ends k
 
-    abbrev found : Found
-    found = find ends m n l k
+    abbrev found : StepParts
+    found = stepParts ends m n l k
 
     at-u : At k u
     at-u = (h, inl refl)
@@ -85,7 +86,7 @@ module _ (ends : List ℕ) (m n : ℕ) (Ok : ℕ → Type 0) (S : Simple ends m)
     -- ---- the fan
 
     grown : Grown At far u (colorOf l) (k ∷ []) k (found .fan)
-    unfolding find degree
+    unfolding stepParts degree
     grown = subst (λ (x : ℕ). Grown At far u (colorOf l) (k ∷ []) k (growFan ends m 4096 l u (k ∷ []) x)) far-u
         (fan-grown ends m l 4096 u (k ∷ []) k (λ p. p, tt) (λ i p. elim p [ inl z ↦ rw z (at-edge ends m u k h (inl refl)) | inr q ↦ absurd q ])
         (omega (arith, degree-bound ends m u)))
@@ -110,11 +111,11 @@ module _ (ends : List ℕ) (m n : ℕ) (Ok : ℕ → Type 0) (S : Simple ends m)
     -- ---- the two colours
 
     allowed-c : Ok (found .c)
-    unfolding find
+    unfolding stepParts
     allowed-c = P .bound l u u-inside
 
     allowed-d : Ok (found .d)
-    unfolding find
+    unfolding stepParts
     allowed-d = P .bound l (lastFarEnd ends u (secondEnd ends k) (found .fan)) last-inside
 
     color-c : found .c ≢ noColor
@@ -124,24 +125,24 @@ module _ (ends : List ℕ) (m n : ℕ) (Ok : ℕ → Type 0) (S : Simple ends m)
     color-d = P .marked (found .d) allowed-d
 
     free-c : Free At (colorOf l) u (found .c)
-    unfolding find
+    unfolding stepParts
     free-c = P .fresh l u u-inside
 
     free-last : Free At (colorOf l) (far (lastEdge k (found .fan)) u) (found .d)
-    unfolding find
+    unfolding stepParts
     free-last = subst (λ (x : ℕ). Free At (colorOf l) x (found .d)) last-far (P .fresh l (lastFarEnd ends u (secondEnd ends k) (found .fan)) last-inside)
 
     -- ---- the path and the exchange
 
     alternating : Alternating At far (colorOf l) u (found .d) (found .c) (found .path)
-    unfolding find
+    unfolding stepParts
     alternating = path-alternating ends m n G node-inside l (I .proper) u (found .c) (found .d) u-inside free-c color-c color-d
 
     path-edges : (j : ℕ) → Mem j (found .path) → j < k
     path-edges j p = colored-before j (elim (path-edge alternating j p .1) [ inl z ↦ rw z color-d | inr z ↦ rw z color-c ])
 
     exchanged : Exchanged At far (colorOf l) (colorOf (found .exchanged)) u (found .c) (found .d) (found .path)
-    unfolding find
+    unfolding stepParts
     exchanged = record {
       graph = G;
       proper = I .proper;
@@ -154,7 +155,7 @@ module _ (ends : List ℕ) (m n : ℕ) (Ok : ℕ → Type 0) (S : Simple ends m)
     }
 
     exchanged-size : length (found .exchanged) ≡ 4096
-    unfolding find
+    unfolding stepParts
     exchanged-size = length-exchange l (found .c) (found .d) (found .path) ∙ I .size
 
     exchanged-done : (j : ℕ) → j < k → Ok (colorOf (found .exchanged) j)
@@ -166,7 +167,7 @@ module _ (ends : List ℕ) (m n : ℕ) (Ok : ℕ → Type 0) (S : Simple ends m)
     -- ---- the places up to w and the rotation
 
     up-to : UpTo At far u (colorOf (found .exchanged)) (found .d) k (found .fan) (found .places)
-    unfolding find
+    unfolding stepParts
     up-to = subst (λ (x : ℕ). UpTo At far u (colorOf (found .exchanged)) (found .d) k (found .fan) (placesTo ends m (found .exchanged) (found .d) u x (found .fan))) far-u
         (places-up-to ends m (found .exchanged) (found .d) u k (found .fan) (some-free exchanged k (found .fan) at-u (grown-fan grown) (fan-nodup grown) free-last maximal))
 
@@ -177,11 +178,11 @@ module _ (ends : List ℕ) (m n : ℕ) (Ok : ℕ → Type 0) (S : Simple ends m)
     places-before j p = fan-edges j (up-to-member up-to j p) .0
 
     rotated : Rotated (colorOf (step ends m n l k)) (found .d) (colorOf (found .exchanged)) k (found .places)
-    unfolding step
-    rotated = rotate-rotated (found .exchanged) k (found .places) (found .d) places-nodup
-        (λ i p. elim p [ inl z ↦ omega (arith, exchanged-size) | inr q ↦ omega (arith, exchanged-size, places-before i q) ])
+    rotated = rw (step-form ends m n l k)
+        (rotate-rotated (found .exchanged) k (found .places) (found .d) places-nodup
+        (λ i p. elim p [ inl z ↦ omega (arith, exchanged-size) | inr q ↦ omega (arith, exchanged-size, places-before i q) ]))
 
-    pub found-laws : FoundLaws ends m n Ok l k (find ends m n l k)
+    pub found-laws : FoundLaws ends m n Ok l k (stepParts ends m n l k)
     found-laws = record {
       allowed-c = allowed-c;
       allowed-d = allowed-d;
@@ -198,9 +199,8 @@ module _ (ends : List ℕ) (m n : ℕ) (Ok : ℕ → Type 0) (S : Simple ends m)
     }
 
     pub step-keeps : Invariant ends m Ok (suc k) (step ends m n l k)
-    unfolding step
     step-keeps = record {
-      size = length-rotate (found .exchanged) k (found .places) (found .d) ∙ exchanged-size;
+      size = ap length (step-form ends m n l k) ∙ length-rotate (found .exchanged) k (found .places) (found .d) ∙ exchanged-size;
       proper = rotation-proper G rotated (exchange-proper exchanged) at-u (fan-up-to exchanged up-to (grown-fan grown)) places-nodup color-d (free-d exchanged) (up-to-free up-to);
       done = λ j b. elim (dec-mem j (k ∷ found .places)) [
         | inl p ↦ elim (rotated-from rotated places-nodup j p) [ inl z ↦ rw z allowed-d | inr (i, q, z) ↦ rw z (exchanged-done i (places-before i q)) ]

@@ -9,7 +9,8 @@ use Rattle.lists.specs.Member.{Mem, Nodup}
 use Rattle.lists.proofs.MemberLaws.{dec-mem}
 use Rattle.graph.specs.Color.{noColor}
 use Rattle.graph.specs.Colored.{colorOf}
-use Rattle.vizing.specs.MisraGries.{store, swap, exchange, rotate}
+use Rattle.vizing.specs.MisraGries.{store, swap, exchange}
+use Rattle.vizing.specs.StepForm.{rotatePlaces}
 use Rattle.graph.proofs.ColoredLaws.{color-set-same, color-set-other}
 use Rattle.vizing.specs.DefinitionLaws.{length-store, color-store-other}
 use Rattle.vizing.specs.AlternatingPath.{swap-swap}
@@ -70,27 +71,27 @@ exchange-twice l c d ks =
 
 -- ---- the rotation
 
-pub length-rotate : (l : List ℕ) (k : ℕ) (ks : List ℕ) (d : ℕ) → length (rotate l k ks d) ≡ length l
-unfolding rotate
+pub length-rotate : (l : List ℕ) (k : ℕ) (ks : List ℕ) (d : ℕ) → length (rotatePlaces l k ks d) ≡ length l
+unfolding rotatePlaces
 length-rotate l k ks d = length-store l (k ∷ ks) (map (colorOf l) ks ++ (d ∷ []))
 
-pub rotate-last : (l : List ℕ) (k d : ℕ) → rotate l k [] d ≡ set l k d
-unfolding rotate store
+pub rotate-last : (l : List ℕ) (k d : ℕ) → rotatePlaces l k [] d ≡ set l k d
+unfolding rotatePlaces store
 rotate-last l k d = refl
 
 -- The first place, then the others: nothing of it is read again.
-pub rotate-next : (l : List ℕ) (k j : ℕ) (ks : List ℕ) (d : ℕ) → (Mem k ks → ⊥) → rotate l k (j ∷ ks) d ≡ rotate (set l k (colorOf l j)) j ks d
-unfolding rotate store
+pub rotate-next : (l : List ℕ) (k j : ℕ) (ks : List ℕ) (d : ℕ) → (Mem k ks → ⊥) → rotatePlaces l k (j ∷ ks) d ≡ rotatePlaces (set l k (colorOf l j)) j ks d
+unfolding rotatePlaces store
 rotate-next l k j ks d n = rw (colors-set l k (colorOf l j) ks n)
 
 -- The colour of the first place is not read.
-rotate-first : (l : List ℕ) (k c : ℕ) (ks : List ℕ) (d : ℕ) → (Mem k ks → ⊥) → rotate (set l k c) k ks d ≡ rotate l k ks d
+rotate-first : (l : List ℕ) (k c : ℕ) (ks : List ℕ) (d : ℕ) → (Mem k ks → ⊥) → rotatePlaces (set l k c) k ks d ≡ rotatePlaces l k ks d
 rotate-first l k c [] d n = rw (rotate-last (set l k c) k d, rotate-last l k d) (set-set l k c d)
 rotate-first l k c (j ∷ ks) d n =
     rw (rotate-next (set l k c) k j ks d (λ p. n (inr p)), rotate-next l k j ks d (λ p. n (inr p)), color-set-other l k c j (λ z. n (inl (sym z))), set-set l k c (colorOf l j))
 
 pub rotate-rotated : (l : List ℕ) (k : ℕ) (ks : List ℕ) (d : ℕ) → Nodup (k ∷ ks) → ((i : ℕ) → Mem i (k ∷ ks) → i < length l)
-    → Rotated (colorOf (rotate l k ks d)) d (colorOf l) k ks
+    → Rotated (colorOf (rotatePlaces l k ks d)) d (colorOf l) k ks
 rotate-rotated l k [] d nodup inside = rw (rotate-last l k d) (Rotated.last (color-set-same l k d (inside k (inl refl))) (λ i n. color-set-other l k d i n))
 rotate-rotated l k (j ∷ ks) d (out, nodup) inside =
     Rotated.next moved (subst (λ (r : List ℕ). Rotated (colorOf r) d (colorOf l″) j ks) same
@@ -103,7 +104,7 @@ rotate-rotated l k (j ∷ ks) d (out, nodup) inside =
     l″ : List ℕ
     l″ = set l′ j noColor
 
-    same : rotate l″ j ks d ≡ rotate l k (j ∷ ks) d
+    same : rotatePlaces l″ j ks d ≡ rotatePlaces l k (j ∷ ks) d
     same = rotate-first l′ j noColor ks d (nodup .0) ∙ sym (rotate-next l k j ks d (λ p. out (inr p)))
 
     moved : Moved (colorOf l) (colorOf l″) k j

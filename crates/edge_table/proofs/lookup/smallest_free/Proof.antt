@@ -1,4 +1,5 @@
 -- `smallest_free` meets its contract. The invariant: the search from c on finds what the search from 0 finds.
+-- The measure: the colours still to be asked, 576 - c; each turn asks one.
 use Prim.Native.Nat.{_≤_, _-_}
 use mathlib.Core.Path.{_≡_}
 use borrow.Author.Needs.{needs}

@@ -1,4 +1,5 @@
 -- `color_all` meets its contract. The invariant: the edges from i on, coloured from here, leave what all leave from the start.
+-- The measure: the edges still to be coloured, length edges - i; each turn colours one.
 use Prim.Native.Nat.{_≤_, _-_}
 use mathlib.Core.Path.{_≡_}
 use lib.ListN.{length, drop}

@@ -1,4 +1,5 @@
 -- `uncolor_all` meets its contract. The invariant: the edges from i on, uncoloured from here, leave what all leave from the start.
+-- The measure: the edges still to be uncoloured, length edges - i; each turn uncolours one.
 use Prim.Native.Nat.{_≤_, _-_}
 use mathlib.Core.Path.{_≡_}
 use lib.ListN.{length, drop}

@@ -1,4 +1,5 @@
 -- `first_joining` meets its contract. The invariant: the search from place i on finds what the search from the first place finds.
+-- The measure: the candidates still to be asked, length near - i; each turn asks one.
 use Prim.Native.Nat.{_-_}
 use mathlib.Core.Path.{_≡_}
 use lib.ListN.{length, drop}

@@ -1,5 +1,6 @@
 -- `shift_colors` meets its contract: of a fan without a place, or where out is too short, nothing is written.
 -- The invariant: the first i colours stand in out, and those of the places from i on are to come.
+-- The measure: the places whose colours are to come, length fan - i; each turn writes one.
 use Prim.Native.Nat.{_≤_, _<_, _+_, _-_}
 use mathlib.Core.Path.{_≡_, refl}
 use native.Mathlib.Omega.{arith}

@@ -1,5 +1,6 @@
 -- `swap_colors` meets its contract: where out is too short nothing is written.
 -- The invariant: the first i colours stand in out, and those of the edges from i on are to come.
+-- The measure: the edges whose colours are to come, length edges - i; each turn writes one.
 use Prim.Native.Nat.{_≤_, _-_}
 use mathlib.Core.Path.{_≡_}
 use lib.ListN.{length, drop}

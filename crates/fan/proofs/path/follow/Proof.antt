@@ -1,4 +1,5 @@
 -- `follow` meets its contract. The invariant: the first len edges of the path stand in out, and it goes on at the end reached.
+-- The measure: the room left in out, length out - len; each turn writes one edge.
 use Prim.Native.Nat.{_-_}
 use mathlib.Core.Path.{_≡_}
 use native.Mathlib.Omega.{arith}

@@ -1,4 +1,5 @@
 -- `places_to` meets its contract. The invariant: the places counted, with those that go on from here, are as many as from the start.
+-- The measure: the places not counted yet, length fan - count; each turn counts one.
 use Prim.Native.Nat.{_+_, _-_}
 use mathlib.Core.Path.{_≡_}
 use lib.ListN.{length, drop}

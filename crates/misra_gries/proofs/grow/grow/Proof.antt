@@ -1,5 +1,6 @@
 -- `grow` meets its contract. The invariant: `len` edges of the fan are written and marked, `next` is the one after them, and no
 -- candidate before lo may join.
+-- The measure: the room left in out, length out - len; each turn writes one edge.
 use Prim.Native.Nat.{_-_}
 use mathlib.Core.Path.{_≡_, refl, _∙_}
 use native.Mathlib.Omega.{arith}

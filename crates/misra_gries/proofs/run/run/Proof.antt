@@ -1,4 +1,5 @@
 -- `run` meets its contract. The invariant: after k edges the working list is what the definition holds, and the tally is that of the edges so far.
+-- The measure: the edges without a colour, m - k; each turn colours one.
 use Prim.Native.Nat.{_-_}
 use mathlib.Core.Path.{_≡_, refl, _∙_}
 use lib.ListN.{length}
