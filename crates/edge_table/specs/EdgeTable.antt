@@ -19,10 +19,6 @@ use Rattle.edge_table.specs.declared.EdgeOfColor.the-variants.{Edge, Not
 abbrev pub noEdge : ℕ
 noEdge = 65535
 
-abbrev pub entryOf : Option ℕ → ℕ
-entryOf none = noEdge
-entryOf (some k) = k
-
 unfoldable pub edgeOfEntry : ℕ → Option ℕ
 edgeOfEntry x = cond (eqb x noEdge) none (some x)
 

@@ -1,7 +1,5 @@
 -- The edge table: what its functions answer and leave, when it is the table of a working list, and that it stays so.
 pub mod EdgeTable
-pub mod EdgeTableLaws
 pub mod TableOf
-pub mod Changes
 pub mod Repaint
 pub mod StepRepaint

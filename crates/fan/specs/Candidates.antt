@@ -1,12 +1,10 @@
 -- The candidates of a fan as the code asks of them: by marks of the fan's edges, by the edge table, and from a place before which none may join.
 use Prim.Native.Nat.{ℕ}
-use mathlib.Core.Path.{_≡_}
 use mathlib.Core.List.{List, [], _∷_}
 use mathlib.Core.Option.{Option, none, some}
 use mathlib.Core.Bool.{Bool, true, false, not, _&&_}
-use lib.ListN.{getD, take}
+use lib.ListN.{getD}
 use lib.Dec.{eqb}
-use Rattle.lists.specs.Member.{Mem}
 use Rattle.graph.specs.Colored.{colorOf, isColored}
 use Rattle.edge_table.specs.EdgeTable.{isEmpty}
 use Rattle.fan.specs.declared.candidates.Joining.{Joining}
@@ -29,7 +27,3 @@ mayJoin l M s k = not (eqb (getD M k 0) s) && isColored l k
 -- Edge k joins the fan whose edges have the mark s and whose last far end is x, by what the table T says.
 unfoldable pub joinsMarked : List ℕ → List ℕ → List ℕ → ℕ → ℕ → ℕ → Bool
 joinsMarked l T M s x k = mayJoin l M s k && isEmpty T x (colorOf l k)
-
--- No candidate before place lo may join.
-unfoldable pub Passed : List ℕ → List ℕ → ℕ → List ℕ → ℕ → Type 0
-Passed l M s near lo = (k : ℕ) → Mem k (take lo near) → mayJoin l M s k ≡ false

@@ -19,7 +19,7 @@ use Rattle.graph.specs.declared.Coloring.{Coloring}
 use Rattle.graph.specs.declared.Coloring.the-variants as O
 use Rattle.vizing.specs.Clause.{VizingColoring}
 use Rattle.vizing.specs.MisraGries.{misraGries, misraGriesChecks}
-use Rattle.vizing.specs.DefinitionLaws.{some-or-none}
+use Rattle.vizing.proofs.DefinitionLaws.{some-or-none}
 use Rattle.matchday_text.specs.Text.{daysText, refusedText, reportText, outcomeText, coloredText}
 use Rattle.matchday_text.specs.Put.{Put, Room}
 use Rattle.matchday_text.proofs.PutLaws.{put-front}

@@ -6,8 +6,8 @@ use lib.ListN.{length, getD, take}
 use Rattle.graph.specs.Report.{Report, accepted, Accepted}
 use Rattle.graph.specs.Edges.{edgeCount}
 use Rattle.graph.specs.Color.{noColor}
-use Rattle.vizing.specs.MisraGries.{held}
-use Rattle.vizing.specs.Demand3.{Admitted, Accurate, Call}
+use Rattle.vizing.specs.MisraGries.{held, misraGries}
+use Rattle.vizing.specs.Demand3.{Admitted, Accurate, Call, Demand3}
 
 -- The colours of a call whose edges are the first k of the list `whole`.
 pub record FirstEdgesOf (n : ℕ) (whole : List ℕ) (k : ℕ) (colors : List ℕ) : Type 0 where
@@ -34,3 +34,8 @@ pub record VizingColoring (n : ℕ) (ends lent : List ℕ) (report : Report ℕ)
 -- A call that has the clause on every input.
 abbrev pub MeetsClause : Call → Type 0
 MeetsClause call = (n : ℕ) (ends lent : List ℕ) → VizingColoring n ends lent (call n ends lent .report) (call n ends lent .colors)
+
+-- The clause over all inputs is the whole claim, and the definition has it. Proved as `clause-is-claim`.
+pub record ClauseIsClaim : Type 0 where
+  pub enough : (call : Call) → MeetsClause call → Demand3 call held
+  pub definition : MeetsClause misraGries

@@ -4,7 +4,7 @@ use Prim.Native.Nat.{ℕ}
 use lib.ListN.{length-replicate}
 use lib.Seq.{length-take-le}
 use Rattle.lists.proofs.PartsLaws.{copied-same}
-use Rattle.misra_gries.specs.Run.{running-begin, running-room, running-done}
+use Rattle.misra_gries.proofs.RunLaws.{running-begin, running-room, running-done}
 use native.Mathlib.Omega.{arith}
 use Rattle.misra_gries.proofs.color_simple.Statement.{statement}
 use Rattle.misra_gries.proofs.color_simple.Tie as tie

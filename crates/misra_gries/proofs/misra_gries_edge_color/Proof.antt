@@ -1,6 +1,6 @@
 -- `misra_gries_edge_color` meets its contract: each answer's tests say which check refuses, or that none does; demand 3 follows from the outcome.
 use borrow.Author.Needs.{needs}
-use Rattle.misra_gries.specs.CallLaws.{graph-no, length-no, length-yes, simple-no, simple-yes, colored-yes, vizing-coloring}
+use Rattle.misra_gries.proofs.CallLaws.{graph-no, length-no, length-yes, simple-no, simple-yes, colored-yes, vizing-coloring}
 use Rattle.misra_gries.proofs.misra_gries_edge_color.Statement.{statement}
 use Rattle.misra_gries.proofs.misra_gries_edge_color.Tie as tie
 

@@ -1,6 +1,6 @@
 -- `edge_of_color` meets its contract: the entry that it reads is an edge's or none.
 use borrow.Author.Needs.{needs}
-use Rattle.edge_table.specs.EdgeTableLaws.{reads-none, reads-edge}
+use Rattle.edge_table.proofs.EdgeTableLaws.{reads-none, reads-edge}
 use Rattle.edge_table.proofs.lookup.edge_of_color.Statement.{statement}
 use Rattle.edge_table.proofs.lookup.edge_of_color.Tie as tie
 

@@ -1,6 +1,6 @@
 -- `entry_at` meets its contract: its tests are those of `entryAt`.
 use borrow.Author.Needs.{needs}
-use Rattle.edge_table.specs.EdgeTableLaws.{no-place, past-end, entry-read}
+use Rattle.edge_table.proofs.EdgeTableLaws.{no-place, past-end, entry-read}
 use Rattle.edge_table.proofs.lookup.entry_at.Statement.{statement}
 use Rattle.edge_table.proofs.lookup.entry_at.Tie as tie
 

@@ -1,6 +1,6 @@
 -- `is_free` meets its contract: it tests the entry that it reads.
 use borrow.Author.Needs.{needs}
-use Rattle.edge_table.specs.EdgeTableLaws.{reads-empty}
+use Rattle.edge_table.proofs.EdgeTableLaws.{reads-empty}
 use Rattle.edge_table.proofs.lookup.is_free.Statement.{statement}
 use Rattle.edge_table.proofs.lookup.is_free.Tie as tie
 

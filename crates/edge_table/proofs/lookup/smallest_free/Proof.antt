@@ -4,7 +4,7 @@ use Prim.Native.Nat.{_≤_, _-_}
 use mathlib.Core.Path.{_≡_}
 use borrow.Author.Needs.{needs}
 use Rattle.edge_table.specs.EdgeTable.{emptyFrom, smallestEmpty}
-use Rattle.edge_table.specs.EdgeTableLaws.{empty-start, empty-found, empty-next, empty-none}
+use Rattle.edge_table.proofs.EdgeTableLaws.{empty-start, empty-found, empty-next, empty-none}
 use Rattle.edge_table.proofs.lookup.smallest_free.Statement.{statement}
 use Rattle.edge_table.proofs.lookup.smallest_free.Tie as tie
 

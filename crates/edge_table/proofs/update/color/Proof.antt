@@ -1,6 +1,6 @@
 -- `color` meets its contract: the table first, then the working list.
 use borrow.Author.Needs.{needs}
-use Rattle.edge_table.specs.EdgeTableLaws.{color-leaves}
+use Rattle.edge_table.proofs.EdgeTableLaws.{color-leaves}
 use Rattle.edge_table.proofs.update.color.Statement.{statement}
 use Rattle.edge_table.proofs.update.color.Tie as tie
 

@@ -5,7 +5,7 @@ use mathlib.Core.Path.{_≡_}
 use lib.ListN.{length, drop}
 use borrow.Author.Needs.{needs}
 use Rattle.edge_table.specs.EdgeTable.{state, allColored}
-use Rattle.edge_table.specs.EdgeTableLaws.{color-next, color-end, color-short}
+use Rattle.edge_table.proofs.EdgeTableLaws.{color-next, color-end, color-short}
 use Rattle.edge_table.proofs.update.color_all.Statement.{statement}
 use Rattle.edge_table.proofs.update.color_all.Tie as tie
 

@@ -1,6 +1,6 @@
 -- `enter` meets its contract: its tests are those of `entered`, and past the end a store changes nothing.
 use borrow.Author.Needs.{needs}
-use Rattle.edge_table.specs.EdgeTableLaws.{entered-no-place, entered-past-end, entered-place}
+use Rattle.edge_table.proofs.EdgeTableLaws.{entered-no-place, entered-past-end, entered-place}
 use Rattle.edge_table.proofs.update.enter.Statement.{statement}
 use Rattle.edge_table.proofs.update.enter.Tie as tie
 

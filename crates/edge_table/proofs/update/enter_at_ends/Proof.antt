@@ -1,6 +1,6 @@
 -- `enter_at_ends` meets its contract: one entry at each end.
 use borrow.Author.Needs.{needs}
-use Rattle.edge_table.specs.EdgeTableLaws.{enter-both}
+use Rattle.edge_table.proofs.EdgeTableLaws.{enter-both}
 use Rattle.edge_table.proofs.update.enter_at_ends.Statement.{statement}
 use Rattle.edge_table.proofs.update.enter_at_ends.Tie as tie
 

@@ -1,6 +1,6 @@
 -- `repaint` meets its contract: what the first call leaves the second starts from.
 use borrow.Author.Needs.{needs}
-use Rattle.edge_table.specs.EdgeTableLaws.{repaint-leaves}
+use Rattle.edge_table.proofs.EdgeTableLaws.{repaint-leaves}
 use Rattle.edge_table.proofs.update.repaint.Statement.{statement}
 use Rattle.edge_table.proofs.update.repaint.Tie as tie
 

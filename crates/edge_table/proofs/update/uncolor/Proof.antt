@@ -1,6 +1,6 @@
 -- `uncolor` meets its contract: the places of the edge's colour, then the working list.
 use borrow.Author.Needs.{needs}
-use Rattle.edge_table.specs.EdgeTableLaws.{uncolor-leaves}
+use Rattle.edge_table.proofs.EdgeTableLaws.{uncolor-leaves}
 use Rattle.edge_table.proofs.update.uncolor.Statement.{statement}
 use Rattle.edge_table.proofs.update.uncolor.Tie as tie
 

@@ -5,7 +5,7 @@ use mathlib.Core.Path.{_≡_}
 use lib.ListN.{length, drop}
 use borrow.Author.Needs.{needs}
 use Rattle.edge_table.specs.EdgeTable.{state, allUncolored}
-use Rattle.edge_table.specs.EdgeTableLaws.{uncolor-next, uncolor-end}
+use Rattle.edge_table.proofs.EdgeTableLaws.{uncolor-next, uncolor-end}
 use Rattle.edge_table.proofs.update.uncolor_all.Statement.{statement}
 use Rattle.edge_table.proofs.update.uncolor_all.Tie as tie
 

@@ -5,7 +5,7 @@ use mathlib.Core.Path.{_≡_}
 use lib.ListN.{length, drop}
 use borrow.Author.Needs.{needs}
 use Rattle.fan.specs.Candidates.{firstThat, joinsMarked}
-use Rattle.fan.specs.CandidateLaws.{first-here, first-next, first-end}
+use Rattle.fan.proofs.CandidateLaws.{first-here, first-next, first-end}
 use Rattle.fan.proofs.candidates.first_joining.Statement.{statement}
 use Rattle.fan.proofs.candidates.first_joining.Tie as tie
 

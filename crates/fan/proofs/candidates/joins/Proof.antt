@@ -1,7 +1,7 @@
 -- `joins` meets its contract: an edge without a colour does not join, nor does one whose colour is taken at the far end; any other joins if and
 -- only if it does not have the mark.
 use borrow.Author.Needs.{needs}
-use Rattle.fan.specs.CandidateLaws.{uncolored-joins-not, taken-joins-not, free-joins}
+use Rattle.fan.proofs.CandidateLaws.{uncolored-joins-not, taken-joins-not, free-joins}
 use Rattle.fan.proofs.candidates.joins.Statement.{statement}
 use Rattle.fan.proofs.candidates.joins.Tie as tie
 

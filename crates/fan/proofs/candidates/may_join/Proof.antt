@@ -1,6 +1,6 @@
 -- `may_join` meets its contract: the edge has the mark, or no colour, or may join.
 use borrow.Author.Needs.{needs}
-use Rattle.fan.specs.CandidateLaws.{marked-may-not, uncolored-may-not, colored-may}
+use Rattle.fan.proofs.CandidateLaws.{marked-may-not, uncolored-may-not, colored-may}
 use Rattle.fan.proofs.candidates.may_join.Statement.{statement}
 use Rattle.fan.proofs.candidates.may_join.Tie as tie
 

@@ -6,7 +6,7 @@ use lib.ListN.{length, drop}
 use borrow.Author.Needs.{needs}
 use Rattle.lists.specs.Search.{firstPlace}
 use Rattle.fan.specs.Candidates.{mayJoin}
-use Rattle.fan.specs.CandidateLaws.{place-here, place-next, place-end}
+use Rattle.fan.proofs.CandidateLaws.{place-here, place-next, place-end}
 use Rattle.fan.proofs.candidates.skip.Statement.{statement}
 use Rattle.fan.proofs.candidates.skip.Tie as tie
 

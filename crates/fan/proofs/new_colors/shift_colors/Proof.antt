@@ -6,9 +6,10 @@ use mathlib.Core.Path.{_≡_, refl}
 use native.Mathlib.Omega.{arith}
 use lib.ListN.{length, drop}
 use borrow.Author.Needs.{needs}
-use Rattle.fan.specs.Front.{Front}
+use Rattle.fan.proofs.FrontLaws.{Front}
 use Rattle.edge_table.specs.StepRepaint.{rotatedColors}
-use Rattle.fan.specs.NewColors.{shiftedColors, shifted-none, shifted-short, shifted-start, shifted-next, shifted-end}
+use Rattle.fan.specs.NewColors.{shiftedColors}
+use Rattle.fan.proofs.NewColorsLaws.{shifted-none, shifted-short, shifted-start, shifted-next, shifted-end}
 use Rattle.fan.proofs.new_colors.shift_colors.Statement.{statement}
 use Rattle.fan.proofs.new_colors.shift_colors.Tie as tie
 

@@ -5,9 +5,9 @@ use Prim.Native.Nat.{_≤_, _-_}
 use mathlib.Core.Path.{_≡_}
 use lib.ListN.{length, drop}
 use borrow.Author.Needs.{needs}
-use Rattle.fan.specs.Front.{Front}
+use Rattle.fan.proofs.FrontLaws.{Front}
 use Rattle.edge_table.specs.StepRepaint.{exchangedColors}
-use Rattle.fan.specs.NewColors.{exchanged-short, exchanged-start, exchanged-next, exchanged-end}
+use Rattle.fan.proofs.NewColorsLaws.{exchanged-short, exchanged-start, exchanged-next, exchanged-end}
 use Rattle.fan.proofs.new_colors.swap_colors.Statement.{statement}
 use Rattle.fan.proofs.new_colors.swap_colors.Tie as tie
 

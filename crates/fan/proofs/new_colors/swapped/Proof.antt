@@ -1,6 +1,6 @@
 -- `swapped` meets its contract: its tests are those of `swap`.
 use borrow.Author.Needs.{needs}
-use Rattle.fan.specs.NewColors.{swap-first, swap-second, swap-neither}
+use Rattle.fan.proofs.NewColorsLaws.{swap-first, swap-second, swap-neither}
 use Rattle.fan.proofs.new_colors.swapped.Statement.{statement}
 use Rattle.fan.proofs.new_colors.swapped.Tie as tie
 

@@ -5,7 +5,8 @@ use mathlib.Core.Path.{_≡_}
 use native.Mathlib.Omega.{arith}
 use lib.ListN.{length}
 use borrow.Author.Needs.{needs}
-use Rattle.fan.specs.TablePath.{tablePath, Following, follow-start, follow-none, follow-edge, follow-full}
+use Rattle.fan.specs.TablePath.{tablePath}
+use Rattle.fan.proofs.TablePathLaws.{Following, follow-start, follow-none, follow-edge, follow-full}
 use Rattle.fan.proofs.path.follow.Statement.{statement}
 use Rattle.fan.proofs.path.follow.Tie as tie
 

@@ -4,7 +4,8 @@ use Prim.Native.Nat.{_+_, _-_}
 use mathlib.Core.Path.{_≡_}
 use lib.ListN.{length, drop}
 use borrow.Author.Needs.{needs}
-use Rattle.fan.specs.TablePlaces.{tablePlaces, places-found, places-next, places-end}
+use Rattle.fan.specs.TablePlaces.{tablePlaces}
+use Rattle.fan.proofs.TablePlacesLaws.{places-found, places-next, places-end}
 use Rattle.fan.proofs.places.places_to.Statement.{statement}
 use Rattle.fan.proofs.places.places_to.Tie as tie
 

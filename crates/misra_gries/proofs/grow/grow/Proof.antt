@@ -7,9 +7,8 @@ use native.Mathlib.Omega.{arith}
 use lib.ListN.{length}
 use borrow.Author.Needs.{needs}
 use Rattle.graph.specs.Edges.{edgeCount}
-use Rattle.fan.specs.Candidates.{Passed}
-use Rattle.fan.specs.CandidateLaws.{passed-none, passed-skipped}
-use Rattle.misra_gries.specs.MarkedFanLaws.{Growing, growing-start, growing-few, growing-low, growing-passed, growing-stop, growing-more}
+use Rattle.fan.proofs.CandidateLaws.{Passed, passed-none, passed-skipped}
+use Rattle.misra_gries.proofs.MarkedFanLaws.{Growing, growing-start, growing-few, growing-low, growing-passed, growing-stop, growing-more}
 use Rattle.misra_gries.proofs.grow.grow.Statement.{statement}
 use Rattle.misra_gries.proofs.grow.grow.Tie as tie
 

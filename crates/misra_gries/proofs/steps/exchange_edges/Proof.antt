@@ -6,8 +6,8 @@ use native.Mathlib.Omega.{arith}
 use lib.ListN.{length, drop, replicate}
 use lib.Seq.{length-take-le}
 use borrow.Author.Needs.{needs}
-use Rattle.fan.specs.TablePath.{path-written}
-use Rattle.misra_gries.specs.StepLaws.{Followed, path-followed, path-exchanged}
+use Rattle.fan.proofs.TablePathLaws.{path-written}
+use Rattle.misra_gries.proofs.StepLaws.{Followed, path-followed, path-exchanged}
 use Rattle.misra_gries.proofs.steps.exchange_edges.Statement.{statement}
 use Rattle.misra_gries.proofs.steps.exchange_edges.Tie as tie
 

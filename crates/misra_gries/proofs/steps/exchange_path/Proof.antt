@@ -1,6 +1,6 @@
 -- `exchange_path` meets its contract: where d is free there is no path.
 use mathlib.Core.Path.{refl}
-use Rattle.misra_gries.specs.StepLaws.{path-empty}
+use Rattle.misra_gries.proofs.StepLaws.{path-empty}
 use Rattle.misra_gries.proofs.steps.exchange_path.Statement.{statement}
 use Rattle.misra_gries.proofs.steps.exchange_path.Tie as tie
 

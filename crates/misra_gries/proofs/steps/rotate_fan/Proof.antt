@@ -1,6 +1,6 @@
 -- `rotate_fan` meets its contract: a fan of one place takes d; any other has room for its colours in an array of 32 places, or of 512.
 use mathlib.Core.Path.{refl}
-use Rattle.misra_gries.specs.StepLaws.{fan-of-one}
+use Rattle.misra_gries.proofs.StepLaws.{fan-of-one}
 use Rattle.misra_gries.proofs.steps.rotate_fan.Statement.{statement}
 use Rattle.misra_gries.proofs.steps.rotate_fan.Tie as tie
 

@@ -1,7 +1,7 @@
 -- `step` meets its contract: the fan grown from the edges at the first end, then turned.
 use mathlib.Core.Path.{refl, sym}
 use lib.Seq.{length-take-le}
-use Rattle.misra_gries.specs.StepLaws.{fan-ready, step-turning, short-take}
+use Rattle.misra_gries.proofs.StepLaws.{fan-ready, step-turning, short-take}
 use borrow.Author.Needs.{needs}
 use native.Mathlib.Omega.{arith}
 use Rattle.misra_gries.proofs.steps.step.Statement.{statement}

@@ -1,7 +1,7 @@
 -- `turn` meets its contract: c and d as the table has them, the path exchanged, the fan rotated up to w.
 -- The places are named after the call that is done there: far-place has the last far end, c-place and d-place the two colours, path-place
 -- the path exchanged, count-place the places up to w, rotate-place the fan rotated.
-use Rattle.misra_gries.specs.StepLaws.{turn-fan, turn-exchanging, turn-count, turn-rotating, turned, top-none, top-some}
+use Rattle.misra_gries.proofs.StepLaws.{turn-fan, turn-exchanging, turn-count, turn-rotating, turned, top-none, top-some}
 use mathlib.Core.Path.{_∙_}
 use borrow.Author.Needs.{needs}
 use native.Mathlib.Omega.{arith}

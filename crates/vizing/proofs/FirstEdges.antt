@@ -1,0 +1,208 @@
+-- The first edges alone: their run, in their own incidence order, holds what the whole run holds after them.
+use Prim.Native.Nat.{ℕ, zero, suc, _+_, _*_, _≤_, _<_}
+use mathlib.Core.Path.{_≡_, refl, sym, ap, _∙_}
+use mathlib.Core.Logic.{inl, inr, _≢_}
+use mathlib.Core.List.{List, [], _∷_, map}
+use native.Mathlib.Omega.{arith}
+use native.Mathlib.Decide.{decLt}
+use lib.ListN.{length, take}
+use lib.Seq.{getD-take, length-take-le}
+use lib.Dec.{eqb}
+use borrow.Author.Tests.{eqb-true}
+use Rattle.lists.proofs.Tests.{by-test}
+use Rattle.lists.specs.Member.{Mem}
+use Rattle.graph.specs.Edges.{edgeCount, firstEnd, secondEnd, isLoop, farEnd, secondAt, firstEdges, secondEdges, edgesAt}
+use Rattle.graph.specs.Color.{smallestFree, noColor}
+use Rattle.graph.specs.Colored.{colorOf, isColored, coloredAmong, smallestFreeAt}
+use Rattle.vizing.specs.MisraGries.{edgeOfColor, isNone, isFree, joins, firstJoining, path, step, Held, stepHeld, heldAfter, held}
+use Rattle.vizing.proofs.StepForm.{growFan, lastFarEnd, placesTo, stepParts, step-form}
+use Rattle.graph.proofs.ColoredLaws.{is-colored-true, is-colored-false, colored-edges-append, colored-edges-keep}
+use Rattle.vizing.proofs.DefinitionLaws.{some-or-none, edge-of-color-some, false-joins, first-joining-some}
+use Rattle.vizing.proofs.LaterEdges.{UncoloredFrom, colored-before, free-color, fan-before, exchanged-uncolored, held-length, held-uncolored}
+
+-- ---- a search over a node's edges sees only the coloured ones
+
+edge-of-color-colored : (l : List ℕ) (c : ℕ) (ks : List ℕ) → c ≢ noColor → edgeOfColor l c ks ≡ edgeOfColor l c (coloredAmong l ks)
+unfolding edgeOfColor coloredAmong
+edge-of-color-colored l c [] nc = refl
+edge-of-color-colored l c (k ∷ ks) nc =
+    by-test (isColored l k)
+    (λ t. by-test (eqb (colorOf l k) c) (λ s. rw (t, edgeOfColor, s)) (λ s. rw (t, edgeOfColor, s) (edge-of-color-colored l c ks nc)))
+    (λ t. by-test (eqb (colorOf l k) c)
+    (λ s. absurd (nc (sym (eqb-true (colorOf l k) c s) ∙ is-colored-false l k t)))
+    (λ s. rw (t, edgeOfColor, s) (edge-of-color-colored l c ks nc)))
+
+joins-colored : (l ks fan : List ℕ) (k : ℕ) → joins l ks fan k ≡ joins l (coloredAmong l ks) fan k
+unfolding joins isFree
+joins-colored l ks fan k =
+    by-test (isColored l k)
+    (λ t. rw (edge-of-color-colored l (colorOf l k) ks (is-colored-true l k t)))
+    (λ t. rw t)
+
+first-joining-colored : (l ks fan candidates : List ℕ) → firstJoining l ks fan candidates ≡ firstJoining l (coloredAmong l ks) fan (coloredAmong l candidates)
+unfolding firstJoining coloredAmong
+first-joining-colored l ks fan [] = refl
+first-joining-colored l ks fan (k ∷ candidates) =
+    by-test (isColored l k)
+    (λ t. by-test (joins l (coloredAmong l ks) fan k)
+    (λ s. rw (t, firstJoining, joins-colored l ks fan k, s))
+    (λ s. rw (t, firstJoining, joins-colored l ks fan k, s) (first-joining-colored l ks fan candidates)))
+    (λ t. rw (t, firstJoining, false-joins l ks fan k (λ j. j .1 (is-colored-false l k t))) (first-joining-colored l ks fan candidates))
+
+-- So two lists with the same coloured edges give the same.
+module _ (l js ks : List ℕ) (same : coloredAmong l js ≡ coloredAmong l ks) where
+  edge-of-color-same : (c : ℕ) → c ≢ noColor → edgeOfColor l c js ≡ edgeOfColor l c ks
+  edge-of-color-same c nc = edge-of-color-colored l c js nc ∙ ap (edgeOfColor l c) same ∙ sym (edge-of-color-colored l c ks nc)
+
+  is-free-same : (c : ℕ) → c ≢ noColor → isFree l js c ≡ isFree l ks c
+  unfolding isFree
+  is-free-same c nc = ap isNone (edge-of-color-same c nc)
+
+  smallest-free-same : smallestFreeAt l js ≡ smallestFreeAt l ks
+  unfolding smallestFreeAt
+  smallest-free-same = ap (λ (is : List ℕ). smallestFree (map (colorOf l) is)) same
+
+first-joining-same : (l js ks fan ps qs : List ℕ) → coloredAmong l js ≡ coloredAmong l ks → coloredAmong l ps ≡ coloredAmong l qs → firstJoining l js fan ps ≡ firstJoining l ks fan qs
+first-joining-same l js ks fan ps qs d e = first-joining-colored l js fan ps ∙ rw (d, e) (sym (first-joining-colored l ks fan qs))
+
+-- ---- edges without a colour at the end of the list
+
+module _ (ends l : List ℕ) (v K : ℕ) (rest : UncoloredFrom l K) where
+  first-edges-colored : (m : ℕ) → K ≤ m → coloredAmong l (firstEdges ends K v) ≡ coloredAmong l (firstEdges ends m v)
+  unfolding firstEdges
+  first-edges-colored zero h = let e : K ≡ zero = omega arith in rw e
+  first-edges-colored (suc m) h = elim (decLt m K) [
+    | yes b ↦ let e : K ≡ suc m = omega arith in rw e
+    | no b ↦ first-edges-colored m (omega arith) ∙ sym (colored-edges-keep l (eqb (firstEnd ends m) v) m (firstEdges ends m v) (rest m (omega arith)))
+  ]
+
+  second-edges-colored : (m : ℕ) → K ≤ m → coloredAmong l (secondEdges ends K v) ≡ coloredAmong l (secondEdges ends m v)
+  unfolding secondEdges
+  second-edges-colored zero h = let e : K ≡ zero = omega arith in rw e
+  second-edges-colored (suc m) h = elim (decLt m K) [
+    | yes b ↦ let e : K ≡ suc m = omega arith in rw e
+    | no b ↦ second-edges-colored m (omega arith) ∙ sym (colored-edges-keep l (secondAt ends m v) m (secondEdges ends m v) (rest m (omega arith)))
+  ]
+
+  edges-at-colored : (m : ℕ) → K ≤ m → coloredAmong l (edgesAt ends K v) ≡ coloredAmong l (edgesAt ends m v)
+  unfolding edgesAt
+  edges-at-colored m h =
+      colored-edges-append l (firstEdges ends K v) (secondEdges ends K v)
+      ∙ rw (first-edges-colored m h, second-edges-colored m h) (sym (colored-edges-append l (firstEdges ends m v) (secondEdges ends m v)))
+
+-- ---- two end lists that agree on the first K edges
+
+module _ (first ends : List ℕ) (K : ℕ) (agree : (j : ℕ) → j < K → (firstEnd first j ≡ firstEnd ends j) × (secondEnd first j ≡ secondEnd ends j)) where
+  first-edges-agree : (k v : ℕ) → k ≤ K → firstEdges first k v ≡ firstEdges ends k v
+  unfolding firstEdges
+  first-edges-agree zero v h = refl
+  first-edges-agree (suc k) v h = rw (agree k h .0, first-edges-agree k v (omega arith))
+
+  second-edges-agree : (k v : ℕ) → k ≤ K → secondEdges first k v ≡ secondEdges ends k v
+  unfolding secondEdges secondAt isLoop
+  second-edges-agree zero v h = refl
+  second-edges-agree (suc k) v h = rw (agree k h .0, agree k h .1, second-edges-agree k v (omega arith))
+
+  edges-at-agree : (v : ℕ) → edgesAt first K v ≡ edgesAt ends K v
+  unfolding edgesAt
+  edges-at-agree v = rw (first-edges-agree K v (omega arith), second-edges-agree K v (omega arith))
+
+  far-end-agree : (j v : ℕ) → j < K → farEnd first j v ≡ farEnd ends j v
+  unfolding farEnd
+  far-end-agree j v h = rw (agree j h .0, agree j h .1)
+
+  last-far-end-agree : (u x : ℕ) (fan : List ℕ) → ((j : ℕ) → Mem j fan → j < K) → lastFarEnd first u x fan ≡ lastFarEnd ends u x fan
+  unfolding lastFarEnd
+  last-far-end-agree u x [] before = refl
+  last-far-end-agree u x (k ∷ fan) before = rw (far-end-agree k u (before k (inl refl))) (last-far-end-agree u (farEnd ends k u) fan (λ j p. before j (inr p)))
+
+  module _ (m : ℕ) (K≤m : K ≤ m) (l : List ℕ) (rest : UncoloredFrom l K) where
+    same-colored : (v : ℕ) → coloredAmong l (edgesAt first K v) ≡ coloredAmong l (edgesAt ends m v)
+    same-colored v = rw (edges-at-agree v) (edges-at-colored ends l v K rest m K≤m)
+
+    grow-fan-agree : (fuel u : ℕ) (fan : List ℕ) (x : ℕ) → growFan first K fuel l u fan x ≡ growFan ends m fuel l u fan x
+    unfolding growFan
+    grow-fan-agree zero u fan x = refl
+    grow-fan-agree (suc fuel) u fan x =
+        let e = first-joining-same l (edgesAt first K x) (edgesAt ends m x) fan (edgesAt first K u) (edgesAt ends m u) (same-colored x) (same-colored u) in
+        elim (some-or-none (firstJoining l (edgesAt ends m x) fan (edgesAt ends m u))) [
+          | inl p ↦ rw (e, p, growFan)
+          | inr (k, p) ↦
+              let colored = first-joining-some l (edgesAt ends m x) fan (edgesAt ends m u) k p .1 .1 in
+              rw (e, p, growFan, far-end-agree k u (colored-before l K rest k colored), grow-fan-agree fuel u (k ∷ fan) (farEnd ends k u))
+        ]
+
+    path-agree : (fuel v p q : ℕ) → p ≢ noColor → q ≢ noColor → path first K fuel l v p q ≡ path ends m fuel l v p q
+    unfolding path
+    path-agree zero v p q np nq = refl
+    path-agree (suc fuel) v p q np nq =
+        let e = edge-of-color-same l (edgesAt first K v) (edgesAt ends m v) (same-colored v) p np in
+        elim (some-or-none (edgeOfColor l p (edgesAt ends m v))) [
+          | inl s ↦ rw (e, s, path)
+          | inr (k, s) ↦
+              let colored : colorOf l k ≢ noColor = rw (edge-of-color-some l p (edgesAt ends m v) k s .1) np in
+              rw (e, s, path, far-end-agree k v (colored-before l K rest k colored), path-agree fuel (farEnd ends k v) q p nq np)
+        ]
+
+    places-agree : (d u x : ℕ) (fan : List ℕ) → d ≢ noColor → ((j : ℕ) → Mem j fan → j < K) → placesTo first K l d u x fan ≡ placesTo ends m l d u x fan
+    unfolding placesTo
+    places-agree d u x [] nd before = refl
+    places-agree d u x (k ∷ fan) nd before =
+        let e = is-free-same l (edgesAt first K x) (edgesAt ends m x) (same-colored x) d nd in
+        by-test (isFree l (edgesAt ends m x) d)
+        (λ t. rw (e, t, placesTo))
+        (λ t. rw (e, t, placesTo, far-end-agree k u (before k (inl refl)), places-agree d u (farEnd ends k u) fan nd (λ j p. before j (inr p))))
+
+  module _ (m n : ℕ) (K≤m : K ≤ m) where
+    parts-agree : (l : List ℕ) → length l < noColor → UncoloredFrom l K → (k : ℕ) → k < K → stepParts first K n l k ≡ stepParts ends m n l k
+    unfolding stepParts
+    parts-agree l few rest k h =
+        let f = stepParts ends m n l k in
+        let u = firstEnd ends k in
+        let v = secondEnd ends k in
+        let x = lastFarEnd ends u v (f .fan) in
+        let nc = free-color ends m l few u in
+        let nd = free-color ends m l few x in
+        rw (
+          agree k h .0,
+          agree k h .1,
+          grow-fan-agree m K≤m l rest 4096 u (k ∷ []) v,
+          last-far-end-agree u v (f .fan) (fan-before ends m n l few k K rest),
+          smallest-free-same l (edgesAt first K u) (edgesAt ends m u) (same-colored m K≤m l rest u),
+          smallest-free-same l (edgesAt first K x) (edgesAt ends m x) (same-colored m K≤m l rest x),
+          path-agree m K≤m l rest n u (f .d) (f .c) nd nc,
+          places-agree m K≤m (f .exchanged) (exchanged-uncolored ends m n l few k K rest) (f .d) u v (f .fan) nd (fan-before ends m n l few k K rest),
+        )
+
+    step-agree : (l : List ℕ) → length l < noColor → UncoloredFrom l K → (k : ℕ) → k < K → step first K n l k ≡ step ends m n l k
+    step-agree l few rest k h = rw (step-form first K n l k, step-form ends m n l k, parts-agree l few rest k h)
+
+    held-agree : (k : ℕ) → k ≤ K → heldAfter first K n k ≡ heldAfter ends m n k
+    unfolding heldAfter stepHeld
+    held-agree zero h = refl
+    held-agree (suc k) h =
+        let l = heldAfter ends m n k .list in
+        rw (held-agree k (omega arith), step-agree l (omega (arith, held-length ends m n k)) (λ j b. held-uncolored ends m n k j (omega arith)) k h)
+
+-- ---- the first k edges
+
+pub first-end-take : (ends : List ℕ) (k j : ℕ) → j < k → firstEnd (take (2 * k) ends) j ≡ firstEnd ends j
+unfolding firstEnd
+first-end-take ends k j h = getD-take (2 * k) ends (2 * j) 0 (omega arith)
+
+pub second-end-take : (ends : List ℕ) (k j : ℕ) → j < k → secondEnd (take (2 * k) ends) j ≡ secondEnd ends j
+unfolding secondEnd
+second-end-take ends k j h = getD-take (2 * k) ends (2 * j + 1) 0 (omega arith)
+
+pub edge-count-take : (ends : List ℕ) (k : ℕ) → k ≤ edgeCount ends → (length (take (2 * k) ends) ≡ 2 * k) × (edgeCount (take (2 * k) ends) ≡ k)
+edge-count-take ends k h = let e = length-take-le (2 * k) ends (omega arith) in (e, omega (arith, e))
+
+-- The list and the tally after the first k edges alone are those of the whole run after its kth edge.
+pub held-first : (n : ℕ) (ends : List ℕ) (k : ℕ) → k ≤ edgeCount ends → heldAfter (take (2 * k) ends) k n k ≡ heldAfter ends (edgeCount ends) n k
+held-first n ends k h = held-agree (take (2 * k) ends) ends k (λ j b. (first-end-take ends k j b, second-end-take ends k j b)) (edgeCount ends) n h k (omega arith)
+
+pub held-take : (n : ℕ) (ends : List ℕ) (k : ℕ) → k ≤ edgeCount ends → held n (take (2 * k) ends) k ≡ held n ends k
+unfolding held
+held-take n ends k h =
+    ap (λ (m : ℕ). heldAfter (take (2 * k) ends) m n k .list) (edge-count-take ends k h .1)
+    ∙ ap (λ (after : Held). after .list) (held-first n ends k h)
