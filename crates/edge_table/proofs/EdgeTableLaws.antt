@@ -1,7 +1,7 @@
 -- Laws of the edge table's definitions: entries, entering, the search for an empty place, and one edge after the other.
 use Prim.Native.Nat.{ℕ, zero, suc, _+_, _*_, _-_, _≤_, _<_}
 use mathlib.Core.List.{List, [], _∷_}
-use mathlib.Core.Option.{Option, none, some}
+use mathlib.Core.Option.{none, some}
 use mathlib.Core.Bool.{Bool, true, false}
 use lib.ListN.{getD, set, length, drop, replicate, length-set, length-replicate, getD-replicate, drop-of-length-le, List·getD-eq-default}
 use lib.Dec.{eqb}
@@ -19,12 +19,6 @@ use lib.Seq.{drop-cons, set-out, getD-set-same, getD-set-other}
 use borrow.Author.Tests.{eq-eqb, ne-eqb, lt-ltb, le-ltb}
 use Rattle.lists.proofs.Tests.{dec-eq}
 use Rattle.edge_table.specs.EdgeTable.{noEdge, edgeOfEntry, entryAt, tableEdge, isEmpty, emptyFrom, smallestEmpty, entered, enteredAtEnds, State, state, uncolored, colored, allUncolored, allColored, repainted}
-
--- ---- entries
-
-abbrev pub entryOf : Option ℕ → ℕ
-entryOf none = noEdge
-entryOf (some k) = k
 
 -- ---- lists
 

@@ -1,5 +1,5 @@
 -- The path of two colours as the edge table gives it, and that a right table gives the definition's.
-use Prim.Native.Nat.{ℕ, zero, suc, _-_}
+use Prim.Native.Nat.{ℕ, zero, suc}
 use mathlib.Core.List.{List, [], _∷_}
 use mathlib.Core.Option.{none, some}
 use Rattle.graph.specs.Edges.{farEnd}

@@ -1,5 +1,5 @@
 -- Colours: days, and the smallest free colour.
-use Prim.Native.Nat.{_-_, ℕ, zero, suc}
+use Prim.Native.Nat.{ℕ, zero, suc}
 use mathlib.Core.List.{List, [], _∷_}
 use mathlib.Core.Bool.{true, false, cond}
 use lib.ListN.{length}

@@ -1,5 +1,5 @@
 -- Edges at a node, as the code goes over them: where an edge stands among them, the part after it or before it, last first, and an edge's ends in order.
-use Prim.Native.Nat.{ℕ, _-_}
+use Prim.Native.Nat.{ℕ}
 use mathlib.Core.Bool.{Bool, true, false}
 use mathlib.Core.List.{List}
 use Rattle.line_graph.specs.LineNeighbors.{beforeIn, afterIn}

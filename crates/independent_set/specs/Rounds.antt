@@ -1,5 +1,5 @@
 -- The rounds as the code runs them: what is known at each turn of its loops.
-use Prim.Native.Nat.{ℕ, _-_}
+use Prim.Native.Nat.{ℕ}
 use mathlib.Core.Path.{_≡_}
 use mathlib.Core.List.{List}
 use lib.ListN.{length}

@@ -307,9 +307,6 @@ count-at ends m v j h p = once (edgesAt ends m v) (edges-at-nodup ends m v) (at-
       ]
     ]
 
-pub count-not-at : (ends : List ℕ) (m v j : ℕ) → (At ends j v → ⊥) → count j (edgesAt ends m v) ≡ 0
-count-not-at ends m v j n = count-none j (edgesAt ends m v) (λ p. n (edge-at ends m v j p .1))
-
 module _ (ends : List ℕ) (m k : ℕ) (h : k < m) where
   length-at : (v : ℕ) → At ends k v → length (laterAt ends m k v) + length (earlierAt ends m k v) + 1 ≡ degree ends m v
   unfolding laterAt earlierAt degree

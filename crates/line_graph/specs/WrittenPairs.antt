@@ -1,5 +1,5 @@
 -- Laws of the pairs as the code counts and writes them.
-use Prim.Native.Nat.{ℕ, zero, suc, _+_, _-_}
+use Prim.Native.Nat.{ℕ, zero, suc}
 use mathlib.Core.List.{List, [], _++_}
 use Rattle.graph.specs.Stretch.{stretch}
 use Rattle.line_graph.specs.LineList.{pairsOf}

@@ -1,5 +1,5 @@
 -- Parts of a list: what a store outside a part, or right before it, does to the part.
-use Prim.Native.Nat.{ℕ, _+_, _-_}
+use Prim.Native.Nat.{ℕ, _-_}
 use mathlib.Core.List.{List, _++_}
 use lib.ListN.{take, drop, length}
 

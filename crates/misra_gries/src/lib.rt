@@ -1,7 +1,7 @@
 // Misra-Gries edge colouring: each edge a colour from 0 to D, edges that share an end different ones.
 ghost use mathlib.Core.Path.{_≡_};
 ghost use mathlib.Core.Bool.{cond};
-ghost use Prim.Native.Nat.{_+_, _≤_};
+ghost use Prim.Native.Nat.{_+_};
 ghost use lib.Dec.{eqb};
 ghost use lib.ListN.{length, take};
 ghost use Rattle.graph.specs.Report.{reportOfColoring};

@@ -1,15 +1,15 @@
 -- A bipartition with 1 at the lowest node of each component is the only one.
 use Prim.Native.Nat.{ℕ, _≤_, _<_}
-use mathlib.Core.Path.{_≡_, refl, sym, ap, _∙_}
+use mathlib.Core.Path.{_≡_, sym, ap, _∙_}
 use mathlib.Core.List.{List}
-use mathlib.Core.Logic.{_⊎_, inl, inr, _≢_}
-use mathlib.Core.Bool.{Bool, true, false, not, xor}
+use mathlib.Core.Logic.{inl, inr, _≢_}
+use mathlib.Core.Bool.{Bool, true, not, xor}
 use native.Mathlib.Omega.{arith}
-use lib.ListN.{length, getD}
+use lib.ListN.{getD}
 use lib.Dec.{eqb}
 use borrow.Author.Tests.{eq-eqb, ne-eqb, eqb-true, eqb-false}
 use Rattle.lists.proofs.Tests.{by-test, dec-eq}
-use Rattle.graph.specs.Report.{Report, accepted, refused, Accepted}
+use Rattle.graph.specs.Report.{Report, accepted}
 use Rattle.graph.specs.Check.{Passed}
 use Rattle.graph.proofs.CheckLaws.{passed-inside}
 use Rattle.graph.specs.Edges.{edgeCount, firstEnd, secondEnd}

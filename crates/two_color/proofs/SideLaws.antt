@@ -1,7 +1,7 @@
 -- Laws of components, sides and colours: the lowest node of a component gets 1, neighbours get different colours, and colouring fails just where a closed walk of odd length exists.
 use Prim.Native.Nat.{ℕ, zero, suc, _-_, _≤_, _<_}
 use mathlib.Core.Path.{_≡_, refl, sym, ap, _∙_}
-use mathlib.Core.Logic.{_⊎_, inl, inr, _≢_}
+use mathlib.Core.Logic.{_⊎_, inl, inr}
 use mathlib.Core.List.{List}
 use mathlib.Core.Bool.{Bool, true, false, not, _&&_, _||_, xor, Bool·beq, cond, Bool·not-not, and-true as and-with-true, and-false, false≢true, true≢false}
 use native.Mathlib.Omega.{arith}

@@ -170,6 +170,3 @@ module _ (ends : List ℕ) (m n : ℕ) (Ok : ℕ → Type 0) (S : Simple ends m)
   -- Either the path is empty and only d can be new, or its first edge had d and only c can be new.
   pub greatest-step : greatestColor (step ends m n l k) ≡ max (greatestColor l) (cond (eqb (length (find ends m n l k .path)) 0) (find ends m n l k .d) (find ends m n l k .c))
   greatest-step = let s = find-form ends m n l k in rw (s .path, s .c, s .d) (raised (found .path) refl)
-
-  pub greatest-grows : greatestColor l ≤ greatestColor (step ends m n l k)
-  greatest-grows = rw greatest-step (omega arith)

@@ -1,10 +1,10 @@
 -- What stands at each place after the exchange and after the rotation; both also done place by place.
 use Prim.Native.Nat.{ℕ, _<_}
-use mathlib.Core.Path.{_≡_, refl, sym, ap, subst, _∙_}
-use mathlib.Core.Logic.{_⊎_, inl, inr}
+use mathlib.Core.Path.{_≡_, refl, sym, subst, _∙_}
+use mathlib.Core.Logic.{inl, inr}
 use mathlib.Core.List.{List, [], _∷_, _++_, map}
 use lib.ListN.{length, set, length-set}
-use lib.Seq.{set-set, ext-getD}
+use lib.Seq.{set-set}
 use Rattle.lists.specs.Member.{Mem, Nodup}
 use Rattle.lists.proofs.MemberLaws.{dec-mem}
 use Rattle.graph.specs.Color.{noColor}
@@ -13,7 +13,6 @@ use Rattle.vizing.specs.MisraGries.{store, swap, exchange}
 use Rattle.vizing.proofs.StepForm.{rotatePlaces}
 use Rattle.graph.proofs.ColoredLaws.{color-set-same, color-set-other}
 use Rattle.vizing.proofs.DefinitionLaws.{length-store, color-store-other}
-use Rattle.vizing.proofs.AlternatingPath.{swap-swap}
 use Rattle.vizing.proofs.Rotation.{Moved, Rotated}
 
 -- Stored by a function of the place, each place has its own colour, also where a place comes twice.
@@ -49,25 +48,6 @@ exchange-off l c d ks i n = color-store-other l ks (map (λ (k : ℕ). swap c d 
 pub exchange-none : (l : List ℕ) (c d : ℕ) → exchange l c d [] ≡ l
 unfolding exchange store
 exchange-none l c d = refl
-
--- The first place, then the others: nothing of it is read again.
-pub exchange-next : (l : List ℕ) (c d k : ℕ) (ks : List ℕ) → (Mem k ks → ⊥) → exchange l c d (k ∷ ks) ≡ exchange (set l k (swap c d (colorOf l k))) c d ks
-unfolding exchange store
-exchange-next l c d k ks n = rw (map-agree (λ (i : ℕ). swap c d (colorOf (set l k (swap c d (colorOf l k))) i)) (λ (i : ℕ). swap c d (colorOf l i)) ks
-    (λ i p. ap (swap c d) (color-set-other l k (swap c d (colorOf l k)) i (λ z. n (subst (λ (x : ℕ). Mem x ks) z p)))))
-
--- Done twice, the exchange gives the list back.
-pub exchange-twice : (l : List ℕ) (c d : ℕ) (ks : List ℕ) → exchange (exchange l c d ks) c d ks ≡ l
-unfolding colorOf
-exchange-twice l c d ks =
-    ext-getD noColor (exchange l′ c d ks) l (length-exchange l′ c d ks ∙ length-exchange l c d ks) (λ i h. same i (rw (length-exchange l′ c d ks) at h) (dec-mem i ks))
-  where
-    l′ : List ℕ
-    l′ = exchange l c d ks
-
-    same : (i : ℕ) → i < length l′ → Mem i ks ⊎ (Mem i ks → ⊥) → colorOf (exchange l′ c d ks) i ≡ colorOf l i
-    same i h (inl p) = exchange-on l′ c d ks i h p ∙ ap (swap c d) (exchange-on l c d ks i (rw (length-exchange l c d ks) at h) p) ∙ swap-swap c d (colorOf l i)
-    same i h (inr n) = exchange-off l′ c d ks i n ∙ exchange-off l c d ks i n
 
 -- ---- the rotation
 

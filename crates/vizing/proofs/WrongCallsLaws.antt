@@ -86,4 +86,4 @@ fills-in-falls = on-p13 fillsIn (λ d.
     omega (arith, e))
 
 pub wrong-calls-fall : WrongCallsFall
-wrong-calls-fall = record { refuses = refuses-all-falls; zeros = all-zero-falls; leaves = leaves-slice-falls; fills = fills-in-falls; clause = falls-clause; claim = falls-demand3 }
+wrong-calls-fall = record { refuses = refuses-all-falls; zeros = all-zero-falls; leaves = leaves-slice-falls; fills = fills-in-falls; accurate = fills-in-accurate; clause = falls-clause; claim = falls-demand3 }

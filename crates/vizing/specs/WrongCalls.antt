@@ -7,7 +7,7 @@ use Rattle.graph.specs.Edges.{edgeCount}
 use Rattle.graph.specs.Report.{accepted, refused}
 use Rattle.graph.specs.Color.{noColor}
 use Rattle.vizing.specs.MisraGries.{held}
-use Rattle.vizing.specs.Demand3.{Admitted, Call, Demand3}
+use Rattle.vizing.specs.Demand3.{Admitted, Accurate, Call, Demand3}
 use Rattle.vizing.specs.Clause.{Demand3Of, MeetsClause}
 use Rattle.vizing.specs.Demand3Examples.{listP13}
 
@@ -55,5 +55,7 @@ pub record WrongCallsFall : Type 0 where
   pub zeros : Falls allZero
   pub leaves : Falls leavesSlice
   pub fills : Falls fillsIn
+  -- On P13's list the last keeps to the accuracy rule, so only the first edges tell.
+  pub accurate : Accurate 4 listP13 filledP13
   pub clause : (call : Call) → Falls call → MeetsClause call → ⊥
   pub claim : (call : Call) → Falls call → Demand3 call held → ⊥

@@ -1,5 +1,5 @@
 -- `copy_numbers` meets its contract. The invariant: the numbers passed are copied.
-use Prim.Native.Nat.{_+_, _-_, _≤_, _/_}
+use Prim.Native.Nat.{_-_, _≤_, _/_}
 use mathlib.Core.Path.{_≡_, refl}
 use mathlib.Core.List.{_++_}
 use lib.ListN.{length, take, drop, length-set}

@@ -1,5 +1,5 @@
 -- `put_off_part` meets its contract. The invariant: the edges passed, from the back, are put off.
-use Prim.Native.Nat.{ℕ, _-_, _≤_}
+use Prim.Native.Nat.{_-_, _≤_}
 use mathlib.Core.List.{reverse}
 use native.Mathlib.Omega.{arith}
 use lib.ListN.{length, drop}
