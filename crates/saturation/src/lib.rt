@@ -6,8 +6,7 @@ ghost use Rattle.graph.specs.CheckLaws.{Passed};
 ghost use Rattle.graph.specs.Color.{daysOf};
 ghost use Rattle.greedy.specs.Saturation.{saturationColors};
 ghost use Rattle.greedy.specs.Call.{greedyNodes, greedyEdges};
-ghost use Rattle.items.specs.Items.{itemsOf};
-ghost use Rattle.saturation.specs.Same.{listNeighbors};
+ghost use Rattle.items.specs.Items.{itemsOf, neighborsOf};
 use graph::Checked;
 use graph::Coloring;
 use graph::days_of;
@@ -25,7 +24,7 @@ fn color_checked(kind: Kind, n: usize, ends: &[u16], presets: &[u16], colors: &m
     requires { ⌜ Passed n (now ends) ⌝ }
     requires { ⌜ (length (now presets) ≡ itemsOf kind n (now ends)) × (length (now colors) ≡ itemsOf kind n (now ends)) ⌝ }
     ensures { λ r. ⌜ r ≡ daysOf (now (colors .exit)) ⌝ }
-    ensures { λ _. ⌜ now (colors .exit) ≡ saturationColors (listNeighbors kind n (now (ends .entry))) (itemsOf kind n (now (ends .entry))) (now (presets .entry)) ⌝ }
+    ensures { λ _. ⌜ now (colors .exit) ≡ saturationColors (neighborsOf kind n (now (ends .entry))) (itemsOf kind n (now (ends .entry))) (now (presets .entry)) ⌝ }
 {
     let mut starts = [0u16; 513];
     let mut entries = [0u16; 8192];
@@ -34,6 +33,7 @@ fn color_checked(kind: Kind, n: usize, ends: &[u16], presets: &[u16], colors: &m
     let mut waiting = [0u16; 4096];
     run(
         kind,
+        n,
         ends,
         &starts,
         &entries,

@@ -2,6 +2,7 @@
 use borrow.Author.Needs.{needs}
 use Rattle.greedy.specs.CallLaws.{edges-no, edges-passed, edges-yes}
 use Rattle.greedy.specs.Saturation.{saturationColors}
+use Rattle.items.specs.Items.{neighborsOf}
 use Rattle.saturation.proofs.color_edges.Statement.{statement}
 use Rattle.saturation.proofs.color_edges.Tie as tie
 
@@ -14,6 +15,7 @@ color-checked-requires c κs =
     (p .0, (p .1, p .2))
 
 returns-2 : tie.Need-returns-2
+unfolding neighborsOf
 returns-2 c = edges-yes saturationColors _ _ _ _ _ _ (c .before .before .before .before .before .before .before .check-edges .ensures) (c .before .before .before .before .before .-graph .given .1) _ _ (c .before .before .color-checked .ensures .1) (c .before .before .color-checked .ensures .0)
 
 pub color-edges-spec : {M : Type 1} → statement M
