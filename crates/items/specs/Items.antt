@@ -172,6 +172,10 @@ unfolding neighborsOf
 neighborhood Nodes n ends items sized = rw (sized .size) (node-neighborhood n ends (sized .passed))
 neighborhood Edges n ends items sized = rw (sized .size) (edge-neighborhood n ends (sized .passed))
 
+-- An item has fewer neighbours than a count can tell.
+pub neighbors-few : (kind : Kind) (n : ℕ) (ends starts entries : List ℕ) (items : ℕ) → Tabled kind n ends starts entries items → (v x : ℕ) → v < items → x ≡ length (neighborsOf kind n ends v) → x < 65536
+neighbors-few kind n ends starts entries items t v x h e = omega (arith, neighborhood kind n ends items (t .sized) .few v h)
+
 -- ---- an item's neighbours are those to which the edges at its nodes lead
 
 -- w is a node of item v.

@@ -14,7 +14,7 @@ use Rattle.graph.specs.Colored.{noColor, colorOf, coloredAmong}
 use Rattle.graph.specs.ColoredLaws.{color-outside, color-read, color-set-same, color-set-other, uncolored-false}
 use Rattle.greedy.specs.Saturation.{uncoloredAmong}
 use Rattle.items.specs.declared.Kind.{Kind}
-use Rattle.items.specs.Items.{neighborsOf, Tabled, items-few, neighborhood}
+use Rattle.items.specs.Items.{neighborsOf, Tabled, items-few}
 use Rattle.saturation.specs.Counts.{Counted, colorsAmong}
 use Rattle.saturation.specs.Taken.{Ready, saturation-among, waiting-among}
 
@@ -40,10 +40,6 @@ started-more nb colors waiting v x p h k q = record {
 
 pub started-all : (nb : ℕ → List ℕ) (colors waiting : List ℕ) (v n : ℕ) → Started nb v colors waiting → v ≤ n → n ≤ v → Started nb n colors waiting
 started-all nb colors waiting v n p h k = let e : v ≡ n = omega arith in rw e at p
-
--- An item has fewer neighbours than a count can tell.
-pub neighbors-few : (kind : Kind) (n : ℕ) (ends starts entries : List ℕ) (items : ℕ) → Tabled kind n ends starts entries items → (v x : ℕ) → v < items → x ≡ length (neighborsOf kind n ends v) → x < 65536
-neighbors-few kind n ends starts entries items t v x h e = omega (arith, neighborhood kind n ends items (t .sized) .few v h)
 
 none-colored : (colors us : List ℕ) → ((u : ℕ) → colorOf colors u ≡ noColor) → coloredAmong colors us ≡ []
 unfolding coloredAmong

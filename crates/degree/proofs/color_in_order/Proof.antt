@@ -1,23 +1,20 @@
--- `color_in_order` meets its contract. The invariant: the turns left give what all turns give at first.
+-- `color_in_order` meets its contract. The invariant: the turns left give what all turns give at first, and their items have no colour yet.
 use Prim.Native.Nat.{_≤_, _-_}
 use mathlib.Core.Path.{_≡_}
 use native.Mathlib.Omega.{arith}
 use lib.ListN.{length, drop, length-set}
 use borrow.Author.Needs.{needs}
-use Rattle.graph.specs.Edges.{edgeCount, neighbors}
 use Rattle.greedy.specs.Degree.{colorInOrder}
-use Rattle.degree.specs.ColorLaws.{node-turn, turns-done}
+use Rattle.items.specs.Items.{neighborsOf}
+use Rattle.degree.specs.ColorLaws.{Waiting, waiting-inside, waiting-next, item-turn, turns-done}
 use Rattle.degree.proofs.color_in_order.Statement.{statement}
 use Rattle.degree.proofs.color_in_order.Tie as tie
 
 abbrev Inv-loop : tie.InvT-loop
-Inv-loop ends starts entries order colors₀ i₀ colors i = (i ≤ length order) × (length colors ≡ length colors₀) × (colorInOrder (neighbors ends (edgeCount ends)) (drop i order) colors ≡ colorInOrder (neighbors ends (edgeCount ends)) order colors₀)
+Inv-loop kind n ends starts entries order colors₀ i₀ colors i = (i ≤ length order) × (length colors ≡ length colors₀) × Waiting (drop i order) colors × (colorInOrder (neighborsOf kind n ends) (drop i order) colors ≡ colorInOrder (neighborsOf kind n ends) order colors₀)
 
 abbrev μ-loop : tie.MeasureT-loop
-μ-loop ends starts entries order colors₀ i₀ colors i = length order - i
-
-loop-holds : tie.Need-loop-holds Inv-loop μ-loop
-loop-holds c = search needs
+μ-loop kind n ends starts entries order colors₀ i₀ colors i = length order - i
 
 cast-colors : tie.Need-cast-colors Inv-loop μ-loop
 cast-colors c = omega (arith, c .before .before .before .shared-slice-known5 .given (c .before .before .before .before .before .loop .i))
@@ -26,13 +23,21 @@ mul-colors : tie.Need-mul-colors Inv-loop μ-loop
 mul-colors c = omega (arith, c .before .before .before .shared-slice-known5 .given (c .before .before .before .before .before .loop .i))
 
 slice-write-colors : tie.Need-slice-write-colors Inv-loop μ-loop
-slice-write-colors c = omega (arith, c .before .before .before .before .before .before .before .before .before .before .before .pre .1 .1 (c .before .before .before .before .before .loop .i) (c .before .before .before .before .loop-test .taken))
+slice-write-colors c =
+    let at-test = c .before .before .before .before in
+    let l = at-test .before .loop in
+    omega (arith, waiting-inside _ _ (l .i) (l .inv .2) (at-test .loop-test .taken))
 
 loop-again : tie.Need-loop-again Inv-loop μ-loop
-loop-again c = let p = c .before .before .before .before .before .before .before .before .before .before .before .pre in let l = c .before .before .before .before .before .loop in (omega arith, simp length-set (l .inv .1), node-turn _ _ _ _ _ _ _ _ (p .0) (p .1 .0) (l .inv .2) (c .before .before .before .before .loop-test .taken) (p .1 .1 (l .i) (c .before .before .before .before .loop-test .taken)) (c .before .smallest-color .ensures))
+loop-again c =
+    let at-test = c .before .before .before .before in
+    let l = at-test .before .loop in
+    let t = at-test .loop-test .taken in
+    let tabled = at-test .before .before .before .before .before .before .before .pre .0 in
+    (omega arith, simp length-set (l .inv .1), waiting-next _ _ (l .i) (l .inv .2) t _, item-turn _ _ _ _ _ _ _ (l .i) _ (rw (l .inv .1) tabled) (l .inv .2) (l .inv .3) t (c .before .free-color .ensures))
 
 returns : tie.Need-returns Inv-loop μ-loop
-returns c = turns-done _ _ _ _ (c .before .loop .inv .2) (c .loop-test .left)
+returns c = turns-done _ _ _ _ (c .before .loop .inv .3) (c .loop-test .left)
 
 pub color-in-order-spec : {M : Type 1} → statement M
 color-in-order-spec =
@@ -40,8 +45,7 @@ color-in-order-spec =
     (tie.spec
     Inv-loop
     μ-loop
-    loop-holds
-    (λ c. search needs) (λ c. search needs) (λ c κs. search needs)
+    (λ c. search needs) (λ c. search needs) (λ c. search needs) (λ c κs. search needs)
     cast-colors
     mul-colors
     slice-write-colors

@@ -1,18 +1,22 @@
--- `color_nodes` meets its contract: one law for each answer.
+-- `color_nodes` meets its contract: the checks refuse, or the answer and its days are the definition's.
 use borrow.Author.Needs.{needs}
 use Rattle.greedy.specs.CallLaws.{nodes-no, nodes-passed, nodes-yes}
 use Rattle.greedy.specs.Degree.{degreeColors}
+use Rattle.items.specs.Items.{neighborsOf}
 use Rattle.degree.proofs.color_nodes.Statement.{statement}
 use Rattle.degree.proofs.color_nodes.Tie as tie
 
 returns : tie.Need-returns
-returns c = let a = c .before .before .before .before .before .before .before .args in nodes-no degreeColors _ _ (a .presets .now) (a .colors .now) _ _ (c .before .before .before .check-nodes .ensures) (c .before .refusal .given .1)
+returns c = nodes-no degreeColors _ _ _ _ _ _ (c .before .before .before .check-nodes .ensures) (c .before .refusal .given .1)
 
-color-checked-requires : tie.Need-color-checked-requires
-color-checked-requires c κs = let a = c .before .before .before .before .before .before .before .args in let o = nodes-passed _ _ (a .presets .now) (a .colors .now) _ _ (c .before .before .before .check-nodes .ensures) (c .before .enum-told .given .1) in (o .0, (o .1, o .2))
+color-checked-nodes-requires : tie.Need-color-checked-nodes-requires
+color-checked-nodes-requires c κs =
+    let p = nodes-passed _ _ (c .before .before .before .before .before .before .before .before .args .presets .now) (c .before .before .before .before .before .before .before .before .args .colors .now) _ _ (c .before .before .before .before .check-nodes .ensures) (c .before .before .-graph .given .1) in
+    (p .0, (p .1, p .2))
 
 returns-2 : tie.Need-returns-2
-returns-2 c = let a = c .before .before .before .before .before .before .before .before .before .before .before .before .args in nodes-yes degreeColors _ _ (a .presets .now) (a .colors .now) _ _ (c .before .before .before .before .before .before .before .before .check-nodes .ensures) (c .before .before .before .before .before .before .enum-told .given .1) _ _ (c .before .before .before .before .color-checked .ensures) (c .days-of .ensures)
+unfolding neighborsOf
+returns-2 c = nodes-yes degreeColors _ _ _ _ _ _ (c .before .before .before .before .before .before .before .check-nodes .ensures) (c .before .before .before .before .before .-graph .given .1) _ _ (c .before .before .color-checked-nodes .ensures .1) (c .before .before .color-checked-nodes .ensures .0)
 
 pub color-nodes-spec : {M : Type 1} → statement M
 color-nodes-spec =
@@ -21,6 +25,6 @@ color-nodes-spec =
     (λ c κs. search needs) (λ c. search needs)
     returns
     (λ c. search needs)
-    color-checked-requires
-    (λ c κs. search needs) (λ c. search needs)
+    color-checked-nodes-requires
+    (λ c. search needs)
     returns-2)
