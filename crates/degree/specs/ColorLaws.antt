@@ -166,3 +166,11 @@ item-turn kind n ends starts entries order colors i c tabled waiting e h p =
 pub degree-colored : (nb : ℕ → List ℕ) (n : ℕ) (presets lent order copied colors : List ℕ) → length presets ≡ n → length lent ≡ n → order ≡ degreeOrder nb n presets → copied ≡ copiedOver presets lent → colors ≡ colorInOrder nb order copied → colors ≡ degreeColors nb n presets
 unfolding degreeColors
 degree-colored nb n presets lent order copied colors a b e f g = g ∙ ap₂ (λ (o l : List ℕ). colorInOrder nb o l) e (f ∙ copied-same presets lent (b ∙ sym a))
+
+-- The kind that the code has found it to be.
+module _ (kind found : Kind) (same : kind ≡ found) (n : ℕ) (ends presets : List ℕ) where
+  pub kind-sizes : (colors : List ℕ) → (length presets ≡ itemsOf kind n ends) × (length colors ≡ itemsOf kind n ends) → (length presets ≡ itemsOf found n ends) × (length colors ≡ itemsOf found n ends)
+  kind-sizes colors p = rw same at p
+
+  pub kind-colored : (colors : List ℕ) → colors ≡ degreeColors (neighborsOf found n ends) (itemsOf found n ends) presets → colors ≡ degreeColors (neighborsOf kind n ends) (itemsOf kind n ends) presets
+  kind-colored colors e = rw same e

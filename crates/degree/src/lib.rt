@@ -6,20 +6,18 @@ ghost use lib.ListN.{length, getD};
 ghost use Rattle.graph.specs.Report.{reportOfColoring};
 ghost use Rattle.graph.specs.CheckLaws.{Passed};
 ghost use Rattle.graph.specs.Color.{daysOf};
-ghost use Rattle.greedy.specs.Call.{greedyNodes, greedyEdges};
 ghost use Rattle.greedy.specs.Degree.{colorInOrder, degreeColors};
 ghost use Rattle.items.specs.declared.Kind.the-variants.{Nodes, Edges};
-ghost use Rattle.items.specs.Items.{itemsOf, neighborsOf, Tabled};
+ghost use Rattle.items.specs.Items.{itemsOf, neighborsOf, greedyOf, Tabled};
 ghost use Rattle.degree.specs.ColorLaws.{Waiting, Room};
 use graph::Checked;
 use graph::Coloring;
 use graph::NodeIndex;
 use graph::copy_colors;
 use graph::days_of;
-use greedy::check_edges;
-use greedy::check_nodes;
 use incidence::incidence_front;
 use items::Kind;
+use items::check_items;
 use items::free_color;
 use items::neighbor_count;
 use order::falling_order;
@@ -141,34 +139,31 @@ fn color_checked_edges(n: usize, ends: &[u16], presets: &[u16], colors: &mut [u1
     )
 }
 
-// Presets stand as they are; the other nodes, by falling degree, ties by rising number, each take the smallest colour that no coloured
-// neighbour has. An input that is refused leaves the colours as lent.
-pub fn color_nodes(n: usize, ends: &[u16], presets: &[u16], colors: &mut [u16]) -> Coloring
-    ensures { λ r. ⌜ reportOfColoring r ≡ greedyNodes degreeColors n (now (ends .entry)) (now (presets .entry)) (now (colors .entry)) .report ⌝ }
-    ensures { λ _. ⌜ now (colors .exit) ≡ greedyNodes degreeColors n (now (ends .entry)) (now (presets .entry)) (now (colors .entry)) .colors ⌝ }
+// The items of this kind, with the lists of its size.
+fn color_items(kind: Kind, n: usize, ends: &[u16], presets: &[u16], colors: &mut [u16]) -> usize
+    requires { ⌜ Passed n (now ends) ⌝ }
+    requires { ⌜ (length (now presets) ≡ itemsOf kind n (now ends)) × (length (now colors) ≡ itemsOf kind n (now ends)) ⌝ }
+    ensures { λ r. ⌜ r ≡ daysOf (now (colors .exit)) ⌝ }
+    ensures { λ _. ⌜ now (colors .exit) ≡ degreeColors (neighborsOf kind n (now (ends .entry))) (itemsOf kind n (now (ends .entry))) (now (presets .entry)) ⌝ }
 {
-    match check_nodes(n, ends, presets.len(), colors.len()) {
-        Checked::Refused(refusal) => {
-            return Coloring::Refused(refusal);
-        }
-        Checked::Accepted(_graph) => {
-            let days = color_checked_nodes(n, ends, presets, colors);
-            Coloring::Accepted { days }
-        }
+    match kind {
+        Kind::Nodes => color_checked_nodes(n, ends, presets, colors),
+        Kind::Edges => color_checked_edges(n, ends, presets, colors),
     }
 }
 
-// The same with edges for nodes: neighbours are the edges that share an end.
-pub fn color_edges(n: usize, ends: &[u16], presets: &[u16], colors: &mut [u16]) -> Coloring
-    ensures { λ r. ⌜ reportOfColoring r ≡ greedyEdges degreeColors n (now (ends .entry)) (now (presets .entry)) (now (colors .entry)) .report ⌝ }
-    ensures { λ _. ⌜ now (colors .exit) ≡ greedyEdges degreeColors n (now (ends .entry)) (now (presets .entry)) (now (colors .entry)) .colors ⌝ }
+// Presets stand as they are; the other items, by falling degree, ties by rising number, each take the smallest colour that no coloured
+// neighbour has. An input that is refused leaves the colours as lent.
+pub fn color(kind: Kind, n: usize, ends: &[u16], presets: &[u16], colors: &mut [u16]) -> Coloring
+    ensures { λ r. ⌜ reportOfColoring r ≡ greedyOf kind degreeColors n (now (ends .entry)) (now (presets .entry)) (now (colors .entry)) .report ⌝ }
+    ensures { λ _. ⌜ now (colors .exit) ≡ greedyOf kind degreeColors n (now (ends .entry)) (now (presets .entry)) (now (colors .entry)) .colors ⌝ }
 {
-    match check_edges(n, ends, presets.len(), colors.len()) {
+    match check_items(kind, n, ends, presets.len(), colors.len()) {
         Checked::Refused(refusal) => {
             return Coloring::Refused(refusal);
         }
         Checked::Accepted(_graph) => {
-            let days = color_checked_edges(n, ends, presets, colors);
+            let days = color_items(kind, n, ends, presets, colors);
             Coloring::Accepted { days }
         }
     }

@@ -18,9 +18,9 @@ use Rattle.graph.specs.Stretch.{stretch}
 use Rattle.graph.specs.StretchLaws.{Table}
 use Rattle.graph.specs.NeighborLaws.{neighbor-edge, edge-neighbor, passed-neighbor, length-neighbors}
 use Rattle.line_graph.specs.LineNeighborLaws.{line-neighbor-member, line-neighbor-count, line-neighbor-count-loop}
-use Rattle.greedy.specs.Call.{edgeNeighbors}
+use Rattle.greedy.specs.Call.{Rule, edgeNeighbors, greedyNodes, greedyEdges}
 use Rattle.greedy.specs.Greedy.{Neighborhood}
-use Rattle.graph.specs.Color.{smallestFrom}
+use Rattle.graph.specs.Color.{Outcome, smallestFrom}
 use Rattle.graph.specs.Colored.{noColor, colorOf, smallestFreeAt}
 use Rattle.greedy.specs.GreedyLaws.{node-neighborhood, edge-neighborhood, edge-neighbors, sharing-neighbor}
 use Rattle.greedy.specs.Marks.{farColors, smallest-color-node}
@@ -56,6 +56,11 @@ ownOf Edges = 1
 unfoldable pub neighborsOf : Kind → ℕ → List ℕ → ℕ → List ℕ
 neighborsOf Nodes n ends = neighbors ends (edgeCount ends)
 neighborsOf Edges n ends = edgeNeighbors n ends
+
+-- The outcome of colouring the items by a strategy, with presets.
+abbrev pub greedyOf : Kind → Rule → ℕ → List ℕ → List ℕ → List ℕ → Outcome
+greedyOf Nodes = greedyNodes
+greedyOf Edges = greedyEdges
 
 -- How many edges stand at node w by the table, an edge itself not counted.
 unfoldable pub countAt : Kind → List ℕ → List ℕ → ℕ → ℕ
