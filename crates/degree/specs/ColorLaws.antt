@@ -168,9 +168,15 @@ unfolding degreeColors
 degree-colored nb n presets lent order copied colors a b e f g = g ∙ ap₂ (λ (o l : List ℕ). colorInOrder nb o l) e (f ∙ copied-same presets lent (b ∙ sym a))
 
 -- The kind that the code has found it to be.
-module _ (kind found : Kind) (same : kind ≡ found) (n : ℕ) (ends presets : List ℕ) where
-  pub kind-sizes : (colors : List ℕ) → (length presets ≡ itemsOf kind n ends) × (length colors ≡ itemsOf kind n ends) → (length presets ≡ itemsOf found n ends) × (length colors ≡ itemsOf found n ends)
-  kind-sizes colors p = rw same at p
+module _ (kind found : Kind) (same : kind ≡ found) (n : ℕ) (ends : List ℕ) where
+  pub kind-sizes : (presets colors : List ℕ) → (length presets ≡ itemsOf kind n ends) × (length colors ≡ itemsOf kind n ends) → (length presets ≡ itemsOf found n ends) × (length colors ≡ itemsOf found n ends)
+  kind-sizes presets colors p = rw same at p
 
-  pub kind-colored : (colors : List ℕ) → colors ≡ degreeColors (neighborsOf found n ends) (itemsOf found n ends) presets → colors ≡ degreeColors (neighborsOf kind n ends) (itemsOf kind n ends) presets
-  kind-colored colors e = rw same e
+  pub kind-colored : (presets colors : List ℕ) → colors ≡ degreeColors (neighborsOf found n ends) (itemsOf found n ends) presets → colors ≡ degreeColors (neighborsOf kind n ends) (itemsOf kind n ends) presets
+  kind-colored presets colors e = rw same e
+
+  pub kind-tabled : (starts entries : List ℕ) (items : ℕ) → Tabled kind n ends starts entries items → Tabled found n ends starts entries items
+  kind-tabled starts entries items t = rw same at t
+
+  pub kind-turns : (order lent colors : List ℕ) → colors ≡ colorInOrder (neighborsOf found n ends) order lent → colors ≡ colorInOrder (neighborsOf kind n ends) order lent
+  kind-turns order lent colors e = rw same e

@@ -46,7 +46,7 @@ fn note_degrees(
 }
 
 // Each item of the order takes the smallest colour that no neighbour has.
-fn color_in_order(
+fn color_each(
     kind: Kind,
     n: usize,
     ends: &[u16],
@@ -65,6 +65,30 @@ fn color_in_order(
         let color = free_color(kind, ends, starts, entries, colors, item);
         colors[item.0 as usize] = color.0;
         i += 1;
+    }
+}
+
+// The same, with the kind a constant in each arm: so the compiler makes a loop for each, which leaves out what the other kind needs.
+fn color_in_order(
+    kind: Kind,
+    n: usize,
+    ends: &[u16],
+    starts: &[u16],
+    entries: &[u16],
+    order: &[u16],
+    colors: &mut [u16],
+)
+    requires { ⌜ Tabled kind n (now ends) (now starts) (now entries) (length (now colors)) ⌝ }
+    requires { ⌜ Waiting (now order) (now colors) ⌝ }
+    ensures { λ _. ⌜ now (colors .exit) ≡ colorInOrder (neighborsOf kind n (now (ends .entry))) (now (order .entry)) (now (colors .entry)) ⌝ }
+{
+    match kind {
+        Kind::Nodes => {
+            color_each(Kind::Nodes, n, ends, starts, entries, order, colors);
+        }
+        Kind::Edges => {
+            color_each(Kind::Edges, n, ends, starts, entries, order, colors);
+        }
     }
 }
 
