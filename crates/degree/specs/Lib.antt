@@ -4,4 +4,3 @@ pub mod OrderLaws
 pub mod CountLaws
 pub mod PlaceLaws
 pub mod ColorLaws
-pub mod EdgeLaws

@@ -1,88 +1,193 @@
-// Greedy colouring by falling degree, of a graph's nodes and of its edges.
+// Greedy colouring by falling degree, of a graph's nodes or of its edges: the strategy over the graph or over its line graph, which is
+// never stored.
 ghost use mathlib.Core.Path.{_≡_};
 ghost use Prim.Native.Nat.{ℕ, _≤_, _<_};
 ghost use lib.ListN.{length, getD};
 ghost use Rattle.graph.specs.Report.{reportOfColoring};
 ghost use Rattle.graph.specs.Check.{Passed};
-ghost use Rattle.graph.specs.Edges.{edgeCount, neighbors};
-ghost use Rattle.graph.specs.Stretch.{stretch, Table};
-ghost use Rattle.greedy.specs.Call.{greedyNodes};
+ghost use Rattle.graph.specs.Color.{daysOf};
 ghost use Rattle.greedy.specs.Degree.{colorInOrder, degreeColors};
+ghost use Rattle.items.specs.declared.Kind.the-variants.{Nodes, Edges};
+ghost use Rattle.items.specs.Items.{itemsOf, neighborsOf, greedyOf, Tabled};
+ghost use Rattle.degree.specs.ColorLaws.{Waiting, Room};
 use graph::Checked;
 use graph::Coloring;
 use graph::NodeIndex;
 use graph::copy_colors;
 use graph::days_of;
-use graph::edges_at;
-use greedy::check_nodes;
-use greedy::smallest_color;
 use incidence::incidence_front;
+use items::Kind;
+use items::check_items;
+use items::free_color;
+use items::neighbor_count;
+use order::falling_order;
 
-mod edges;
 mod order;
 
-pub use edges::color_edges;
-
-// How many edges stand at each node.
-fn node_degrees(n: usize, starts: &[u16], entries: &[u16], degrees: &mut [u16])
-    requires { ⌜ (n ≤ length (now degrees)) × (n ≤ 512) ⌝ }
-    requires { ⌜ ((v : ℕ) → v < n → length (stretch (now starts) (now entries) v) ≤ 4096) ⌝ }
-    ensures { λ _. ⌜ ((v : ℕ) → v < n → getD (now (degrees .exit)) v 0 ≡ length (stretch (now (starts .entry)) (now (entries .entry)) v)) ⌝ }
+// How many neighbours each of the first `items` items has.
+fn note_degrees(
+    kind: Kind,
+    n: usize,
+    ends: &[u16],
+    starts: &[u16],
+    entries: &[u16],
+    items: usize,
+    degrees: &mut [u16],
+)
+    requires { ⌜ Tabled kind n (now ends) (now starts) (now entries) items ⌝ }
+    requires { ⌜ items ≤ length (now degrees) ⌝ }
+    ensures { λ _. ⌜ ((v : ℕ) → v < items → getD (now (degrees .exit)) v 0 ≡ length (neighborsOf kind n (now (ends .entry)) v)) ⌝ }
 {
     let mut v = 0;
-    while v < n {
-        degrees[v] = edges_at(starts, entries, NodeIndex(v as u16)).len() as u16;
+    while v < items {
+        degrees[v] = neighbor_count(kind, ends, starts, entries, NodeIndex(v as u16)) as u16;
         v += 1;
     }
 }
 
-// Each node of the order takes the smallest colour that no neighbour has.
-fn color_in_order(ends: &[u16], starts: &[u16], entries: &[u16], order: &[u16], colors: &mut [u16])
-    requires { ⌜ Passed (length (now colors)) (now ends) ⌝ }
-    requires { ⌜ Table (now ends) (length (now colors)) (now starts) (now entries) ⌝ }
-    requires { ⌜ ((i : ℕ) → i < length (now order) → getD (now order) i 0 < length (now colors)) ⌝ }
-    ensures { λ _. ⌜ now (colors .exit) ≡ colorInOrder (neighbors (now (ends .entry)) (edgeCount (now (ends .entry)))) (now (order .entry)) (now (colors .entry)) ⌝ }
+// Each item of the order takes the smallest colour that no neighbour has.
+fn color_each(
+    kind: Kind,
+    n: usize,
+    ends: &[u16],
+    starts: &[u16],
+    entries: &[u16],
+    order: &[u16],
+    colors: &mut [u16],
+)
+    requires { ⌜ Tabled kind n (now ends) (now starts) (now entries) (length (now colors)) ⌝ }
+    requires { ⌜ Waiting (now order) (now colors) ⌝ }
+    ensures { λ _. ⌜ now (colors .exit) ≡ colorInOrder (neighborsOf kind n (now (ends .entry))) (now (order .entry)) (now (colors .entry)) ⌝ }
 {
     let mut i = 0;
     while i < order.len() {
-        let node = NodeIndex(order[i]);
-        let color = smallest_color(ends, starts, entries, colors, node);
-        colors[node.0 as usize] = color.0;
+        let item = NodeIndex(order[i]);
+        let color = free_color(kind, ends, starts, entries, colors, item);
+        colors[item.0 as usize] = color.0;
         i += 1;
     }
 }
 
-// A graph that passed the checks, a preset and a place for each node.
-fn color_checked(n: usize, ends: &[u16], presets: &[u16], colors: &mut [u16])
+// The same, with the kind a constant in each arm: so the compiler makes a loop for each, which leaves out what the other kind needs.
+fn color_in_order(
+    kind: Kind,
+    n: usize,
+    ends: &[u16],
+    starts: &[u16],
+    entries: &[u16],
+    order: &[u16],
+    colors: &mut [u16],
+)
+    requires { ⌜ Tabled kind n (now ends) (now starts) (now entries) (length (now colors)) ⌝ }
+    requires { ⌜ Waiting (now order) (now colors) ⌝ }
+    ensures { λ _. ⌜ now (colors .exit) ≡ colorInOrder (neighborsOf kind n (now (ends .entry))) (now (order .entry)) (now (colors .entry)) ⌝ }
+{
+    match kind {
+        Kind::Nodes => {
+            color_each(Kind::Nodes, n, ends, starts, entries, order, colors);
+        }
+        Kind::Edges => {
+            color_each(Kind::Edges, n, ends, starts, entries, order, colors);
+        }
+    }
+}
+
+// A graph that passed the checks, a preset and a colour for each item, and lists to work with. The answer is how many days the colours take.
+fn color_checked(
+    kind: Kind,
+    n: usize,
+    ends: &[u16],
+    presets: &[u16],
+    colors: &mut [u16],
+    degrees: &mut [u16],
+    counts: &mut [u16],
+    order: &mut [u16],
+) -> usize
     requires { ⌜ Passed n (now ends) ⌝ }
-    requires { ⌜ (length (now presets) ≡ n) × (length (now colors) ≡ n) ⌝ }
-    ensures { λ _. ⌜ now (colors .exit) ≡ degreeColors (neighbors (now (ends .entry)) (edgeCount (now (ends .entry)))) n (now (presets .entry)) ⌝ }
+    requires { ⌜ (length (now presets) ≡ itemsOf kind n (now ends)) × (length (now colors) ≡ itemsOf kind n (now ends)) ⌝ }
+    requires { ⌜ Room kind n (now ends) (now degrees) (now counts) (now order) ⌝ }
+    ensures { λ r. ⌜ r ≡ daysOf (now (colors .exit)) ⌝ }
+    ensures { λ _. ⌜ now (colors .exit) ≡ degreeColors (neighborsOf kind n (now (ends .entry))) (itemsOf kind n (now (ends .entry))) (now (presets .entry)) ⌝ }
 {
     let mut starts = [0u16; 513];
     let mut entries = [0u16; 8192];
+    incidence_front(n, ends, &mut starts, &mut entries);
+    note_degrees(kind, n, ends, &starts, &entries, presets.len(), degrees);
+    let count = falling_order(degrees, presets, counts, order);
+    copy_colors(presets, colors);
+    color_in_order(kind, n, ends, &starts, &entries, &order[..count], colors);
+    days_of(colors)
+}
+
+// The nodes, with lists of their size: a node has at most 4,096 neighbours.
+fn color_checked_nodes(n: usize, ends: &[u16], presets: &[u16], colors: &mut [u16]) -> usize
+    requires { ⌜ Passed n (now ends) ⌝ }
+    requires { ⌜ (length (now presets) ≡ itemsOf Nodes n (now ends)) × (length (now colors) ≡ itemsOf Nodes n (now ends)) ⌝ }
+    ensures { λ r. ⌜ r ≡ daysOf (now (colors .exit)) ⌝ }
+    ensures { λ _. ⌜ now (colors .exit) ≡ degreeColors (neighborsOf Nodes n (now (ends .entry))) (itemsOf Nodes n (now (ends .entry))) (now (presets .entry)) ⌝ }
+{
     let mut degrees = [0u16; 512];
     let mut counts = [0u16; 4097];
     let mut order = [0u16; 512];
-    incidence_front(n, ends, &mut starts, &mut entries);
-    node_degrees(n, &starts, &entries, &mut degrees);
-    let count = order::falling_order(&degrees, presets, &mut counts, &mut order);
-    copy_colors(presets, colors);
-    color_in_order(ends, &starts, &entries, &order[..count], colors);
+    color_checked(
+        Kind::Nodes,
+        n,
+        ends,
+        presets,
+        colors,
+        &mut degrees,
+        &mut counts,
+        &mut order,
+    )
 }
 
-// Presets stand as they are; the other nodes, by falling degree, ties by rising number, each take the smallest colour that no coloured
-// neighbour has. An input that is refused leaves the colours as lent.
-pub fn color_nodes(n: usize, ends: &[u16], presets: &[u16], colors: &mut [u16]) -> Coloring
-    ensures { λ r. ⌜ reportOfColoring r ≡ greedyNodes degreeColors n (now (ends .entry)) (now (presets .entry)) (now (colors .entry)) .report ⌝ }
-    ensures { λ _. ⌜ now (colors .exit) ≡ greedyNodes degreeColors n (now (ends .entry)) (now (presets .entry)) (now (colors .entry)) .colors ⌝ }
+// The edges: an edge has at most 4,095 neighbours at each end.
+fn color_checked_edges(n: usize, ends: &[u16], presets: &[u16], colors: &mut [u16]) -> usize
+    requires { ⌜ Passed n (now ends) ⌝ }
+    requires { ⌜ (length (now presets) ≡ itemsOf Edges n (now ends)) × (length (now colors) ≡ itemsOf Edges n (now ends)) ⌝ }
+    ensures { λ r. ⌜ r ≡ daysOf (now (colors .exit)) ⌝ }
+    ensures { λ _. ⌜ now (colors .exit) ≡ degreeColors (neighborsOf Edges n (now (ends .entry))) (itemsOf Edges n (now (ends .entry))) (now (presets .entry)) ⌝ }
 {
-    match check_nodes(n, ends, presets.len(), colors.len()) {
+    let mut degrees = [0u16; 4096];
+    let mut counts = [0u16; 8191];
+    let mut order = [0u16; 4096];
+    color_checked(
+        Kind::Edges,
+        n,
+        ends,
+        presets,
+        colors,
+        &mut degrees,
+        &mut counts,
+        &mut order,
+    )
+}
+
+// The items of this kind, with the lists of its size.
+fn color_items(kind: Kind, n: usize, ends: &[u16], presets: &[u16], colors: &mut [u16]) -> usize
+    requires { ⌜ Passed n (now ends) ⌝ }
+    requires { ⌜ (length (now presets) ≡ itemsOf kind n (now ends)) × (length (now colors) ≡ itemsOf kind n (now ends)) ⌝ }
+    ensures { λ r. ⌜ r ≡ daysOf (now (colors .exit)) ⌝ }
+    ensures { λ _. ⌜ now (colors .exit) ≡ degreeColors (neighborsOf kind n (now (ends .entry))) (itemsOf kind n (now (ends .entry))) (now (presets .entry)) ⌝ }
+{
+    match kind {
+        Kind::Nodes => color_checked_nodes(n, ends, presets, colors),
+        Kind::Edges => color_checked_edges(n, ends, presets, colors),
+    }
+}
+
+// Presets stand as they are; the other items, by falling degree, ties by rising number, each take the smallest colour that no coloured
+// neighbour has. An input that is refused leaves the colours as lent.
+pub fn color(kind: Kind, n: usize, ends: &[u16], presets: &[u16], colors: &mut [u16]) -> Coloring
+    ensures { λ r. ⌜ reportOfColoring r ≡ greedyOf kind degreeColors n (now (ends .entry)) (now (presets .entry)) (now (colors .entry)) .report ⌝ }
+    ensures { λ _. ⌜ now (colors .exit) ≡ greedyOf kind degreeColors n (now (ends .entry)) (now (presets .entry)) (now (colors .entry)) .colors ⌝ }
+{
+    match check_items(kind, n, ends, presets.len(), colors.len()) {
         Checked::Refused(refusal) => {
             return Coloring::Refused(refusal);
         }
-        Checked::Accepted(_) => {
-            color_checked(n, ends, presets, colors);
-            let days = days_of(colors);
+        Checked::Accepted(_graph) => {
+            let days = color_items(kind, n, ends, presets, colors);
             Coloring::Accepted { days }
         }
     }

@@ -93,14 +93,14 @@ module _ (nb : ℕ → List ℕ) (items n : ℕ) (ends presets lent : List ℕ) 
     unfolding checkItems
     no-refusal g p = checked-accepted checks (n, edgeCount ends) c g e p .0
 
-    items-no : (rule : Rule) (r : Refusal) → c ≡ C.Refused r → (refused (number r) ≡ greedyItems rule nb items n ends presets lent .report) × (lent ≡ greedyItems rule nb items n ends presets lent .colors)
+    pub items-no : (rule : Rule) (r : Refusal) → c ≡ C.Refused r → (refused (number r) ≡ greedyItems rule nb items n ends presets lent .report) × (lent ≡ greedyItems rule nb items n ends presets lent .colors)
     unfolding checkItems
     items-no rule r p = items-refused rule (number r) (checked-refused checks (n, edgeCount ends) c r e p)
 
-    items-passed : (g : Graph) → c ≡ C.Accepted g → Passed n ends × (length presets ≡ items) × (length lent ≡ items)
+    pub items-passed : (g : Graph) → c ≡ C.Accepted g → Passed n ends × (length presets ≡ items) × (length lent ≡ items)
     items-passed g p = item-checks-passed n ends items (length presets) (length lent) (no-refusal g p)
 
-    items-yes : (rule : Rule) (g : Graph) → c ≡ C.Accepted g → (days : ℕ) (answer : List ℕ) → answer ≡ rule nb items presets → days ≡ daysOf answer
+    pub items-yes : (rule : Rule) (g : Graph) → c ≡ C.Accepted g → (days : ℕ) (answer : List ℕ) → answer ≡ rule nb items presets → days ≡ daysOf answer
         → (accepted days ≡ greedyItems rule nb items n ends presets lent .report) × (answer ≡ greedyItems rule nb items n ends presets lent .colors)
     items-yes rule g p = items-accepted rule (no-refusal g p)
 

@@ -11,6 +11,7 @@ use graph::Color;
 use graph::Coloring;
 use graph::Graph;
 use greedy::ColoringStrategy;
+use items::Kind;
 
 // Degree without presets. The local list stands for as many empty presets as there are colours; where there are more colours
 // than a graph may have nodes, the length is refused whatever the presets.
@@ -23,9 +24,9 @@ pub fn greedy_node_color(n: usize, ends: &[u16], colors: &mut [u16]) -> Coloring
     let presets = [Color::NONE; 512];
     let lent = colors.len();
     if lent <= Graph::MAX_NODES {
-        degree::color_nodes(n, ends, &presets[..lent], colors)
+        degree::color(Kind::Nodes, n, ends, &presets[..lent], colors)
     } else {
-        degree::color_nodes(n, ends, &presets, colors)
+        degree::color(Kind::Nodes, n, ends, &presets, colors)
     }
 }
 
@@ -42,7 +43,7 @@ pub fn greedy_node_color_with_preset_colors(
     ensures precoloring { λ r. ⌜ PrecoloringKept n (now (presets .entry)) (reportOfColoring r) (now (colors .exit)) ⌝ }
     ensures proper { λ r. ⌜ ProperNodeColoring n (now (ends .entry)) (now (presets .entry)) (reportOfColoring r) (now (colors .exit)) ⌝ }
 {
-    degree::color_nodes(n, ends, presets, colors)
+    degree::color(Kind::Nodes, n, ends, presets, colors)
 }
 
 // Any strategy with presets.
@@ -60,8 +61,8 @@ pub fn greedy_node_color_with_coloring_strategy(
     ensures proper { λ r. ⌜ ProperNodeColoring n (now (ends .entry)) (now (presets .entry)) (reportOfColoring r) (now (colors .exit)) ⌝ }
 {
     match strategy {
-        ColoringStrategy::Degree => degree::color_nodes(n, ends, presets, colors),
-        ColoringStrategy::Saturation => saturation::color_nodes(n, ends, presets, colors),
+        ColoringStrategy::Degree => degree::color(Kind::Nodes, n, ends, presets, colors),
+        ColoringStrategy::Saturation => saturation::color(Kind::Nodes, n, ends, presets, colors),
         ColoringStrategy::IndependentSet => independent_set::color_nodes(n, ends, presets, colors),
     }
 }
@@ -76,9 +77,9 @@ pub fn greedy_edge_color(n: usize, ends: &[u16], colors: &mut [u16]) -> Coloring
     let presets = [Color::NONE; 4096];
     let lent = colors.len();
     if lent <= Graph::MAX_EDGES {
-        degree::color_edges(n, ends, &presets[..lent], colors)
+        degree::color(Kind::Edges, n, ends, &presets[..lent], colors)
     } else {
-        degree::color_edges(n, ends, &presets, colors)
+        degree::color(Kind::Edges, n, ends, &presets, colors)
     }
 }
 
@@ -97,8 +98,8 @@ pub fn greedy_edge_color_with_coloring_strategy(
     ensures proper { λ r. ⌜ ProperEdgeColoring (now (ends .entry)) (now (presets .entry)) (reportOfColoring r) (now (colors .exit)) ⌝ }
 {
     match strategy {
-        ColoringStrategy::Degree => degree::color_edges(n, ends, presets, colors),
-        ColoringStrategy::Saturation => saturation::color_edges(n, ends, presets, colors),
+        ColoringStrategy::Degree => degree::color(Kind::Edges, n, ends, presets, colors),
+        ColoringStrategy::Saturation => saturation::color(Kind::Edges, n, ends, presets, colors),
         ColoringStrategy::IndependentSet => independent_set::color_edges(n, ends, presets, colors),
     }
 }

@@ -17,12 +17,12 @@ use Rattle.graph.specs.Edges.{edgeCount, firstEnd, secondEnd, farEnd, edgesAt, 
 use Rattle.graph.proofs.EdgeLaws.{at-edge}
 use Rattle.graph.specs.Stretch.{stretch, Table}
 use Rattle.graph.proofs.NeighborLaws.{neighbor-edge, edge-neighbor, passed-neighbor, length-neighbors}
-use Rattle.line_graph.specs.LineNeighbors.{lineNeighbors}
-use Rattle.line_graph.proofs.LineNeighborLaws.{line-neighbor-member, member-line-neighbor, line-neighbor-symmetric, line-times-symmetric, line-neighbor-bound, line-neighbor-count, line-neighbor-count-loop}
+use Rattle.line_graph.proofs.LineNeighborLaws.{line-neighbor-member, line-neighbor-count, line-neighbor-count-loop}
+use Rattle.greedy.specs.Call.{Rule, edgeNeighbors, greedyNodes, greedyEdges}
 use Rattle.greedy.specs.Greedy.{Neighborhood}
-use Rattle.graph.specs.Color.{smallestFrom, noColor}
+use Rattle.graph.specs.Color.{Outcome, smallestFrom, noColor}
 use Rattle.graph.specs.Colored.{colorOf, smallestFreeAt}
-use Rattle.greedy.proofs.GreedyLaws.{node-neighborhood, edge-neighbors}
+use Rattle.greedy.proofs.GreedyLaws.{node-neighborhood, edge-neighborhood, edge-neighbors, sharing-neighbor}
 use Rattle.greedy.specs.Marks.{farColors}
 use Rattle.greedy.proofs.MarksLaws.{smallest-color-node}
 use Rattle.greedy.specs.EdgeMarks.{colorsOf}
@@ -54,10 +54,15 @@ unfoldable pub ownOf : Kind → ℕ
 ownOf Nodes = 0
 ownOf Edges = 1
 
--- The neighbours of an item.
-unfoldable pub neighborsOf : Kind → List ℕ → ℕ → List ℕ
-neighborsOf Nodes ends = neighbors ends (edgeCount ends)
-neighborsOf Edges ends = lineNeighbors ends (edgeCount ends)
+-- The neighbours of an item, as the definition has them: of an edge by the line list.
+unfoldable pub neighborsOf : Kind → ℕ → List ℕ → ℕ → List ℕ
+neighborsOf Nodes n ends = neighbors ends (edgeCount ends)
+neighborsOf Edges n ends = edgeNeighbors n ends
+
+-- The outcome of colouring the items by a strategy, with presets.
+abbrev pub greedyOf : Kind → Rule → ℕ → List ℕ → List ℕ → List ℕ → Outcome
+greedyOf Nodes = greedyNodes
+greedyOf Edges = greedyEdges
 
 -- How many edges stand at node w by the table, an edge itself not counted.
 unfoldable pub countAt : Kind → List ℕ → List ℕ → ℕ → ℕ
@@ -76,15 +81,18 @@ freeColor Nodes ends starts entries colors v = smallestFrom 512 (farColors ends 
 freeColor Edges ends starts entries colors v = smallestFrom 4096 (colorsOf colors (stretch starts entries (firstEnd ends v)) ++ colorsOf colors (stretch starts entries (secondEnd ends v))) 0
 
 -- A graph that passed the checks has this many items.
-pub record Sized (kind : Kind) (ends : List ℕ) (items : ℕ) : Type 0 where
-  pub nodes : ℕ
-  pub passed : Passed nodes ends
-  pub size : items ≡ itemsOf kind nodes ends
+pub record Sized (kind : Kind) (n : ℕ) (ends : List ℕ) (items : ℕ) : Type 0 where
+  pub passed : Passed n ends
+  pub size : items ≡ itemsOf kind n ends
 
 -- The same, with its table.
-pub record Tabled (kind : Kind) (ends starts entries : List ℕ) (items : ℕ) : Type 0 where
-  pub sized : Sized kind ends items
-  pub table : Table ends (sized .nodes) starts entries
+pub record Tabled (kind : Kind) (n : ℕ) (ends starts entries : List ℕ) (items : ℕ) : Type 0 where
+  pub sized : Sized kind n ends items
+  pub table : Table ends n starts entries
+
+-- A graph that passed, with its table, at the slice of its items.
+pub items-tabled : (kind : Kind) (n : ℕ) (ends starts entries colors : List ℕ) → Passed n ends → Table ends n starts entries → length colors ≡ itemsOf kind n ends → Tabled kind n ends starts entries (length colors)
+items-tabled kind n ends starts entries colors p table e = record { sized = record { passed = p; size = e }; table = table }
 
 -- ---- as the code answers
 
@@ -146,39 +154,34 @@ module _ (kind : Kind) (ends starts entries colors : List ℕ) (v r : ℕ) where
 
 -- ---- a graph that passed
 
-pub items-few : (kind : Kind) (ends : List ℕ) (items : ℕ) → Sized kind ends items → items ≤ 4096
-items-few Nodes ends items sized = omega (arith, sized .size, sized .passed .nodes)
-items-few Edges ends items sized = omega (arith, sized .size, sized .passed .edges)
+pub items-few : (kind : Kind) (n : ℕ) (ends : List ℕ) (items : ℕ) → Sized kind n ends items → items ≤ 4096
+items-few Nodes n ends items sized = omega (arith, sized .size, sized .passed .nodes)
+items-few Edges n ends items sized = omega (arith, sized .size, sized .passed .edges)
 
-pub first-inside : (kind : Kind) (ends : List ℕ) (items : ℕ) → (sized : Sized kind ends items) → (v : ℕ) → v < items → firstNode kind ends v < sized .nodes
+pub first-inside : (kind : Kind) (n : ℕ) (ends : List ℕ) (items : ℕ) → Sized kind n ends items → (v : ℕ) → v < items → firstNode kind ends v < n
 unfolding firstNode
-first-inside Nodes ends items sized v h = omega (arith, sized .size)
-first-inside Edges ends items sized v h = passed-inside (sized .nodes) ends (sized .passed) v (omega (arith, sized .size)) .0
+first-inside Nodes n ends items sized v h = omega (arith, sized .size)
+first-inside Edges n ends items sized v h = passed-inside n ends (sized .passed) v (omega (arith, sized .size)) .0
 
-pub second-inside : (kind : Kind) (ends : List ℕ) (items : ℕ) → (sized : Sized kind ends items) → (v : ℕ) → v < items → secondNode kind ends v < sized .nodes
+pub second-inside : (kind : Kind) (n : ℕ) (ends : List ℕ) (items : ℕ) → Sized kind n ends items → (v : ℕ) → v < items → secondNode kind ends v < n
 unfolding secondNode
-second-inside Nodes ends items sized v h = omega (arith, sized .size)
-second-inside Edges ends items sized v h = passed-inside (sized .nodes) ends (sized .passed) v (omega (arith, sized .size)) .1
+second-inside Nodes n ends items sized v h = omega (arith, sized .size)
+second-inside Edges n ends items sized v h = passed-inside n ends (sized .passed) v (omega (arith, sized .size)) .1
 
 -- An edge leads from its ends to items.
-pub across-inside : (kind : Kind) (ends : List ℕ) (items : ℕ) → Sized kind ends items → (k w : ℕ) → k < edgeCount ends → At ends k w → acrossOf kind ends k w < items
+pub across-inside : (kind : Kind) (n : ℕ) (ends : List ℕ) (items : ℕ) → Sized kind n ends items → (k w : ℕ) → k < edgeCount ends → At ends k w → acrossOf kind ends k w < items
 unfolding acrossOf
-across-inside Nodes ends items sized k w h p = rw (sized .size) (passed-neighbor (sized .nodes) ends (sized .passed) w (farEnd ends k w) (edge-neighbor ends (edgeCount ends) w k h p))
-across-inside Edges ends items sized k w h p = omega (arith, sized .size)
+across-inside Nodes n ends items sized k w h p = rw (sized .size) (passed-neighbor n ends (sized .passed) w (farEnd ends k w) (edge-neighbor ends (edgeCount ends) w k h p))
+across-inside Edges n ends items sized k w h p = omega (arith, sized .size)
 
-pub neighborhood : (kind : Kind) (ends : List ℕ) (items : ℕ) → Sized kind ends items → Neighborhood (neighborsOf kind ends) items
+pub neighborhood : (kind : Kind) (n : ℕ) (ends : List ℕ) (items : ℕ) → Sized kind n ends items → Neighborhood (neighborsOf kind n ends) items
 unfolding neighborsOf
-neighborhood Nodes ends items sized = rw (sized .size) (node-neighborhood (sized .nodes) ends (sized .passed))
-neighborhood Edges ends items sized =
-    let m = edgeCount ends in
-    let p = sized .passed in
-    rw (sized .size) (record {
-      items = omega (arith, p .edges);
-      inside = λ v w h q. line-neighbor-member ends m v w q .0;
-      symmetric = λ v w h q. line-neighbor-symmetric ends m w v h q;
-      times = λ v w h k d. line-times-symmetric ends m (sized .nodes) w v (passed-inside (sized .nodes) ends p) k h (λ e. d (sym e));
-      few = λ v h. omega (arith, line-neighbor-bound ends m v h, p .edges);
-    })
+neighborhood Nodes n ends items sized = rw (sized .size) (node-neighborhood n ends (sized .passed))
+neighborhood Edges n ends items sized = rw (sized .size) (edge-neighborhood n ends (sized .passed))
+
+-- An item has fewer neighbours than a count can tell.
+pub neighbors-few : (kind : Kind) (n : ℕ) (ends starts entries : List ℕ) (items : ℕ) → Tabled kind n ends starts entries items → (v x : ℕ) → v < items → x ≡ length (neighborsOf kind n ends v) → x < 65536
+neighbors-few kind n ends starts entries items t v x h e = omega (arith, neighborhood kind n ends items (t .sized) .few v h)
 
 -- ---- an item's neighbours are those to which the edges at its nodes lead
 
@@ -195,22 +198,23 @@ pub record Leading (kind : Kind) (ends : List ℕ) (v u : ℕ) : Type 0 where
   pub at : At ends edge node
   pub to : acrossOf kind ends edge node ≡ u
 
-pub neighbor-leading : (kind : Kind) (ends : List ℕ) (v u : ℕ) → Mem u (neighborsOf kind ends v) → Leading kind ends v u
+pub neighbor-leading : (kind : Kind) (n : ℕ) (ends : List ℕ) (items : ℕ) → Sized kind n ends items → (v u : ℕ) → v < items → Mem u (neighborsOf kind n ends v) → Leading kind ends v u
 unfolding neighborsOf firstNode secondNode acrossOf
-neighbor-leading Nodes ends v u p =
+neighbor-leading Nodes n ends items sized v u h p =
     let r = neighbor-edge ends (edgeCount ends) v u p in
     record { edge = r .0; node = v; inside = r .1; of-item = inl refl; at = r .2; to = r .3 }
-neighbor-leading Edges ends v u p =
-    let r = line-neighbor-member ends (edgeCount ends) v u p in
+neighbor-leading Edges n ends items sized v u h p =
+    let e = edge-neighbors n ends (sized .passed) v (omega (arith, sized .size)) in
+    let r = line-neighbor-member ends (edgeCount ends) v u (rw e at p) in
     record { edge = u; node = r .2 .0; inside = r .0; of-item = r .2 .1; at = r .2 .2; to = refl }
 
-pub leading-neighbor : (kind : Kind) (ends : List ℕ) (items : ℕ) → Sized kind ends items → (v u : ℕ) → v < items → u ≢ v → Leading kind ends v u → Mem u (neighborsOf kind ends v)
+pub leading-neighbor : (kind : Kind) (n : ℕ) (ends : List ℕ) (items : ℕ) → Sized kind n ends items → (v u : ℕ) → v < items → u ≢ v → Leading kind ends v u → Mem u (neighborsOf kind n ends v)
 unfolding neighborsOf firstNode secondNode acrossOf
-leading-neighbor Nodes ends items sized v u h n l =
+leading-neighbor Nodes n ends items sized v u h d l =
     let e : l .node ≡ v = elim (l .of-item) [ inl p ↦ sym p | inr p ↦ sym p ] in
     subst (λ (x : ℕ). Mem x (neighbors ends (edgeCount ends) v)) (ap (farEnd ends (l .edge)) (sym e) ∙ l .to) (edge-neighbor ends (edgeCount ends) v (l .edge) (l .inside) (subst (λ (w : ℕ). At ends (l .edge) w) e (l .at)))
-leading-neighbor Edges ends items sized v u h n l =
-    member-line-neighbor ends (edgeCount ends) v u (l .node) (omega (arith, sized .size)) (subst (λ (x : ℕ). x < edgeCount ends) (l .to) (l .inside)) n (l .of-item) (subst (λ (x : ℕ). At ends x (l .node)) (l .to) (l .at))
+leading-neighbor Edges n ends items sized v u h d l =
+    sharing-neighbor n ends (sized .passed) v u (l .node) (omega (arith, sized .size)) (subst (λ (x : ℕ). x < edgeCount ends) (l .to) (l .inside)) (λ e. d (sym e)) (l .of-item) (subst (λ (x : ℕ). At ends x (l .node)) (l .to) (l .at))
 
 -- ---- how many
 
@@ -241,30 +245,32 @@ own-at ends v a h p = member-length v (edgesAt ends (edgeCount ends) a) (at-edge
     member-length : (k : ℕ) (ks : List ℕ) → Mem k ks → 1 ≤ length ks
     member-length k (j ∷ ks) q = omega arith
 
-module _ (ends starts entries : List ℕ) (items : ℕ) where
+module _ (n : ℕ) (ends starts entries : List ℕ) (items : ℕ) where
   -- As many edges stand at the nodes of an item as the table has there.
-  module _ (kind : Kind) (t : Tabled kind ends starts entries items) (v : ℕ) (h : v < items) where
+  module _ (kind : Kind) (t : Tabled kind n ends starts entries items) (v : ℕ) (h : v < items) where
     at-first : length (stretch starts entries (firstNode kind ends v)) ≡ degree ends (edgeCount ends) (firstNode kind ends v)
     unfolding degree
-    at-first = ap length (t .table .row (firstNode kind ends v) (first-inside kind ends items (t .sized) v h))
+    at-first = ap length (t .table .row (firstNode kind ends v) (first-inside kind n ends items (t .sized) v h))
 
     at-second : length (stretch starts entries (secondNode kind ends v)) ≡ degree ends (edgeCount ends) (secondNode kind ends v)
     unfolding degree
-    at-second = ap length (t .table .row (secondNode kind ends v) (second-inside kind ends items (t .sized) v h))
+    at-second = ap length (t .table .row (secondNode kind ends v) (second-inside kind n ends items (t .sized) v h))
 
   -- The neighbours of an item of a graph that passed the checks, whose two nodes are one,
-  neighbors-one : (kind : Kind) → Tabled kind ends starts entries items → (v : ℕ) → v < items → firstNode kind ends v ≡ secondNode kind ends v
-      → countAt kind starts entries (firstNode kind ends v) ≡ length (neighborsOf kind ends v)
+  neighbors-one : (kind : Kind) → Tabled kind n ends starts entries items → (v : ℕ) → v < items → firstNode kind ends v ≡ secondNode kind ends v
+      → countAt kind starts entries (firstNode kind ends v) ≡ length (neighborsOf kind n ends v)
   unfolding countAt ownOf firstNode secondNode neighborsOf
   neighbors-one Nodes t v h e = omega (arith, at-first Nodes t v h, length-neighbors ends (edgeCount ends) v)
-  neighbors-one Edges t v h e = omega (arith, at-first Edges t v h, line-neighbor-count-loop ends (edgeCount ends) v (omega (arith, t .sized .size)) e)
+  neighbors-one Edges t v h e =
+      let inside : v < edgeCount ends = omega (arith, t .sized .size) in
+      omega (arith, at-first Edges t v h, ap length (edge-neighbors n ends (t .sized .passed) v inside), line-neighbor-count-loop ends (edgeCount ends) v inside e)
 
   -- and of one with two nodes.
-  neighbors-two : (kind : Kind) → Tabled kind ends starts entries items → (v : ℕ) → v < items → firstNode kind ends v ≢ secondNode kind ends v
-      → countAt kind starts entries (firstNode kind ends v) + countAt kind starts entries (secondNode kind ends v) ≡ length (neighborsOf kind ends v)
+  neighbors-two : (kind : Kind) → Tabled kind n ends starts entries items → (v : ℕ) → v < items → firstNode kind ends v ≢ secondNode kind ends v
+      → countAt kind starts entries (firstNode kind ends v) + countAt kind starts entries (secondNode kind ends v) ≡ length (neighborsOf kind n ends v)
   unfolding countAt ownOf firstNode secondNode neighborsOf
-  neighbors-two Nodes t v h n = absurd (n refl)
-  neighbors-two Edges t v h n =
+  neighbors-two Nodes t v h d = absurd (d refl)
+  neighbors-two Edges t v h d =
       let inside : v < edgeCount ends = omega (arith, t .sized .size) in
       omega (
         arith,
@@ -272,23 +278,22 @@ module _ (ends starts entries : List ℕ) (items : ℕ) where
         own-at ends v (secondEnd ends v) inside (inr refl),
         at-first Edges t v h,
         at-second Edges t v h,
-        line-neighbor-count ends (edgeCount ends) v inside n,
+        ap length (edge-neighbors n ends (t .sized .passed) v inside),
+        line-neighbor-count ends (edgeCount ends) v inside d,
       )
 
   -- With a graph's own table the neighbours of each item are counted.
-  pub neighbors-counted : (kind : Kind) → Tabled kind ends starts entries items → (v : ℕ) → v < items → neighborCount kind ends starts entries v ≡ length (neighborsOf kind ends v)
+  pub neighbors-counted : (kind : Kind) → Tabled kind n ends starts entries items → (v : ℕ) → v < items → neighborCount kind ends starts entries v ≡ length (neighborsOf kind n ends v)
   neighbors-counted kind t v h = elim (dec-eq (firstNode kind ends v) (secondNode kind ends v)) [
     | inl e ↦ sym (count-one kind ends starts entries v _ _ _ refl refl refl e) ∙ neighbors-one kind t v h e
-    | inr n ↦ sym (count-two kind ends starts entries v _ _ _ refl refl refl n _ refl) ∙ neighbors-two kind t v h n
+    | inr d ↦ sym (count-two kind ends starts entries v _ _ _ refl refl refl d _ refl) ∙ neighbors-two kind t v h d
   ]
 
 -- ---- the smallest colour that no neighbour has
 
 -- With a graph's own table an item without a colour finds the smallest that no neighbour has. A coloured edge finds its own at its ends as well.
-pub free-smallest : (kind : Kind) (ends starts entries colors : List ℕ) → Tabled kind ends starts entries (length colors) → (v r : ℕ) → v < length colors → colorOf colors v ≡ noColor
-    → r ≡ freeColor kind ends starts entries colors v → r ≡ smallestFreeAt colors (neighborsOf kind ends v)
+pub free-smallest : (kind : Kind) (n : ℕ) (ends starts entries colors : List ℕ) → Tabled kind n ends starts entries (length colors) → (v r : ℕ) → v < length colors → colorOf colors v ≡ noColor
+    → r ≡ freeColor kind ends starts entries colors v → r ≡ smallestFreeAt colors (neighborsOf kind n ends v)
 unfolding freeColor neighborsOf
-free-smallest Nodes ends starts entries colors t v r h bare e = smallest-color-node (t .sized .nodes) ends starts entries colors v r (t .sized .passed) (t .table) (omega (arith, t .sized .size)) e
-free-smallest Edges ends starts entries colors t v r h bare e =
-    let inside : v < edgeCount ends = omega (arith, t .sized .size) in
-    smallest-color-edge (t .sized .nodes) ends starts entries colors v r (t .sized .passed) (t .table) inside bare e ∙ ap (smallestFreeAt colors) (edge-neighbors (t .sized .nodes) ends (t .sized .passed) v inside)
+free-smallest Nodes n ends starts entries colors t v r h bare e = smallest-color-node n ends starts entries colors v r (t .sized .passed) (t .table) (omega (arith, t .sized .size)) e
+free-smallest Edges n ends starts entries colors t v r h bare e = smallest-color-edge n ends starts entries colors v r (t .sized .passed) (t .table) (omega (arith, t .sized .size)) bare e

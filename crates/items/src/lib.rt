@@ -1,13 +1,18 @@
 // What is coloured: the nodes of a graph, or its edges. A node's neighbours lie across its edges; an edge's are the other edges at its ends.
 // An item is a node of the graph that is coloured: of the graph itself, or of its line graph, whose nodes are the edges.
 ghost use mathlib.Core.Path.{_≡_};
-ghost use Rattle.items.specs.Items.{firstNode, secondNode, acrossOf, countAt, neighborCount, freeColor};
+ghost use Rattle.graph.specs.Report.{reportOfChecked};
+ghost use Rattle.greedy.specs.Call.{checkItems};
+ghost use Rattle.items.specs.Items.{itemsOf, firstNode, secondNode, acrossOf, countAt, neighborCount, freeColor};
+use graph::Checked;
 use graph::Color;
 use graph::EdgeIndex;
 use graph::NodeIndex;
 use graph::edges_at;
 use graph::end_at;
 use graph::far_end;
+use greedy::check_edges;
+use greedy::check_nodes;
 use greedy::smallest_color;
 use greedy::smallest_edge_color;
 use line_graph::edge_of_node;
@@ -21,6 +26,16 @@ pub use marks::mark_used;
 pub enum Kind {
     Nodes,
     Edges,
+}
+
+// The checks of colouring these items, given how many presets and colours are lent.
+pub fn check_items(kind: Kind, n: usize, ends: &[u16], presets: usize, colors: usize) -> Checked
+    ensures { λ r. ⌜ reportOfChecked r ≡ checkItems n (now (ends .entry)) (itemsOf kind n (now (ends .entry))) presets colors ⌝ }
+{
+    match kind {
+        Kind::Nodes => check_nodes(n, ends, presets, colors),
+        Kind::Edges => check_edges(n, ends, presets, colors),
+    }
 }
 
 // The first node of an item: a node itself, or an edge's first end.

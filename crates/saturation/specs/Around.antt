@@ -15,6 +15,7 @@ use Rattle.graph.proofs.EdgeLaws.{edge-at}
 use Rattle.graph.proofs.NeighborLaws.{neighbors-far-ends}
 use Rattle.graph.specs.Stretch.{stretch}
 use Rattle.line_graph.proofs.LineNeighborLaws.{line-neighbor-times, line-neighbor-times-loop}
+use Rattle.greedy.proofs.GreedyLaws.{edge-neighbors}
 use Rattle.items.specs.declared.Kind.{Kind}
 use Rattle.items.specs.declared.Kind.the-variants.{Nodes, Edges}
 use Rattle.items.specs.Items.{firstNode, secondNode, acrossOf, neighborsOf, Tabled, first-inside, second-inside, across-inside}
@@ -24,17 +25,17 @@ use Rattle.saturation.specs.Notes.{Noted, Room, noted-more, room-first, 
 -- ---- as the code goes
 
 module _ (kind : Kind) (ends starts entries : List ℕ) where
-  module _ (items : ℕ) (tabled : Tabled kind ends starts entries items) (v a : ℕ) (inside : v < items) (edges : List ℕ) (at : edges ≡ stretch starts entries a) where
-    stretch-inside : a < tabled .sized .nodes → (i : ℕ) → i < length edges → acrossOf kind ends (getD edges i 0) a < items
+  module _ (n items : ℕ) (tabled : Tabled kind n ends starts entries items) (v a : ℕ) (inside : v < items) (edges : List ℕ) (at : edges ≡ stretch starts entries a) where
+    stretch-inside : a < n → (i : ℕ) → i < length edges → acrossOf kind ends (getD edges i 0) a < items
     stretch-inside h i b =
         let r = edge-at ends (edgeCount ends) a (getD edges i 0) (subst (λ (l : List ℕ). Mem (getD edges i 0) l) (at ∙ tabled .table .row a h) (mem-getD edges i 0 b)) in
-        across-inside kind ends items (tabled .sized) (getD edges i 0) a (r .0) (r .1)
+        across-inside kind n ends items (tabled .sized) (getD edges i 0) a (r .0) (r .1)
 
     pub first-across : a ≡ firstNode kind ends v → (i : ℕ) → i < length edges → acrossOf kind ends (getD edges i 0) a < items
-    first-across e = stretch-inside (rw e (first-inside kind ends items (tabled .sized) v inside))
+    first-across e = stretch-inside (rw e (first-inside kind n ends items (tabled .sized) v inside))
 
     pub second-across : a ≡ secondNode kind ends v → (i : ℕ) → i < length edges → acrossOf kind ends (getD edges i 0) a < items
-    second-across e = stretch-inside (rw e (second-inside kind ends items (tabled .sized) v inside))
+    second-across e = stretch-inside (rw e (second-inside kind n ends items (tabled .sized) v inside))
 
   module _ (colors : List ℕ) (v a b : ℕ) (p : a ≡ firstNode kind ends v) (q : b ≡ secondNode kind ends v) (edges : List ℕ) (x : edges ≡ stretch starts entries a) where
     pub around-first : (s w m : List ℕ) → Room colors (around kind ends starts entries v) s w m → Room colors (acrossAll kind ends a edges) s w m
@@ -64,23 +65,23 @@ unfolding acrossAll acrossOf
 across-edges ends w [] = refl
 across-edges ends w (k ∷ ks) = ap (λ (l : List ℕ). k ∷ l) (across-edges ends w ks)
 
-along-nodes : (ends starts entries : List ℕ) (items w : ℕ) → (tabled : Tabled Nodes ends starts entries items) → w < tabled .sized .nodes → along Nodes ends starts entries w ≡ neighbors ends (edgeCount ends) w
+along-nodes : (n : ℕ) (ends starts entries : List ℕ) (items w : ℕ) → Tabled Nodes n ends starts entries items → w < n → along Nodes ends starts entries w ≡ neighbors ends (edgeCount ends) w
 unfolding along acrossAll acrossOf
-along-nodes ends starts entries items w tabled h = rw (tabled .table .row w h) (sym (neighbors-far-ends ends (edgeCount ends) w))
+along-nodes n ends starts entries items w tabled h = rw (tabled .table .row w h) (sym (neighbors-far-ends ends (edgeCount ends) w))
 
-along-edges : (ends starts entries : List ℕ) (items w : ℕ) → (tabled : Tabled Edges ends starts entries items) → w < tabled .sized .nodes → along Edges ends starts entries w ≡ edgesAt ends (edgeCount ends) w
+along-edges : (n : ℕ) (ends starts entries : List ℕ) (items w : ℕ) → Tabled Edges n ends starts entries items → w < n → along Edges ends starts entries w ≡ edgesAt ends (edgeCount ends) w
 unfolding along
-along-edges ends starts entries items w tabled h = across-edges ends w (stretch starts entries w) ∙ tabled .table .row w h
+along-edges n ends starts entries items w tabled h = across-edges ends w (stretch starts entries w) ∙ tabled .table .row w h
 
-pub around-times : (kind : Kind) (ends starts entries : List ℕ) (items : ℕ) → Tabled kind ends starts entries items → (v u : ℕ) → v < items → u ≢ v → count u (around kind ends starts entries v) ≡ count u (neighborsOf kind ends v)
+pub around-times : (kind : Kind) (n : ℕ) (ends starts entries : List ℕ) (items : ℕ) → Tabled kind n ends starts entries items → (v u : ℕ) → v < items → u ≢ v → count u (around kind ends starts entries v) ≡ count u (neighborsOf kind n ends v)
 unfolding firstNode secondNode neighborsOf
-around-times Nodes ends starts entries items tabled v u h n = ap (count u) (around-one Nodes ends starts entries v v v refl refl refl ∙ along-nodes ends starts entries items v tabled (omega (arith, tabled .sized .size)))
-around-times Edges ends starts entries items tabled v u h n =
+around-times Nodes n ends starts entries items tabled v u h d = ap (count u) (around-one Nodes ends starts entries v v v refl refl refl ∙ along-nodes n ends starts entries items v tabled (omega (arith, tabled .sized .size)))
+around-times Edges n ends starts entries items tabled v u h d =
     let b : v < edgeCount ends = omega (arith, tabled .sized .size) in
-    let first = along-edges ends starts entries items (firstEnd ends v) tabled (first-inside Edges ends items (tabled .sized) v h) in
-    let second = along-edges ends starts entries items (secondEnd ends v) tabled (second-inside Edges ends items (tabled .sized) v h) in
-    elim (dec-eq (firstEnd ends v) (secondEnd ends v)) [
-      | inl e ↦ ap (count u) (around-one Edges ends starts entries v (firstEnd ends v) (secondEnd ends v) refl refl e ∙ first) ∙ sym (line-neighbor-times-loop ends (edgeCount ends) v b u n e)
-      | inr d ↦ ap (count u) (around-two Edges ends starts entries v (firstEnd ends v) (secondEnd ends v) refl refl d) ∙ (count-append u (along Edges ends starts entries (firstEnd ends v)) (along Edges ends starts entries (secondEnd ends v))
-          ∙ omega (arith, ap (count u) first, ap (count u) second, line-neighbor-times ends (edgeCount ends) v b u n d))
-    ]
+    let first = along-edges n ends starts entries items (firstEnd ends v) tabled (first-inside Edges n ends items (tabled .sized) v h) in
+    let second = along-edges n ends starts entries items (secondEnd ends v) tabled (second-inside Edges n ends items (tabled .sized) v h) in
+    rw (edge-neighbors n ends (tabled .sized .passed) v b) (elim (dec-eq (firstEnd ends v) (secondEnd ends v)) [
+      | inl e ↦ ap (count u) (around-one Edges ends starts entries v (firstEnd ends v) (secondEnd ends v) refl refl e ∙ first) ∙ sym (line-neighbor-times-loop ends (edgeCount ends) v b u d e)
+      | inr e ↦ ap (count u) (around-two Edges ends starts entries v (firstEnd ends v) (secondEnd ends v) refl refl e) ∙ (count-append u (along Edges ends starts entries (firstEnd ends v)) (along Edges ends starts entries (secondEnd ends v))
+          ∙ omega (arith, ap (count u) first, ap (count u) second, line-neighbor-times ends (edgeCount ends) v b u d e))
+    ])

@@ -7,4 +7,3 @@ pub mod Taken
 pub mod Start
 pub mod Choice
 pub mod Turns
-pub mod Same

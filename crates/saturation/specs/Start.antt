@@ -16,7 +16,7 @@ use Rattle.graph.specs.Colored.{colorOf, coloredAmong}
 use Rattle.graph.proofs.ColoredLaws.{color-outside, color-read, color-set-same, color-set-other, uncolored-false}
 use Rattle.greedy.specs.Saturation.{uncoloredAmong}
 use Rattle.items.specs.declared.Kind.{Kind}
-use Rattle.items.specs.Items.{neighborsOf, Tabled, items-few, neighborhood}
+use Rattle.items.specs.Items.{neighborsOf, Tabled, items-few}
 use Rattle.saturation.specs.Counts.{Counted, colorsAmong}
 use Rattle.saturation.specs.Taken.{Ready, saturation-among, waiting-among}
 
@@ -42,10 +42,6 @@ started-more nb colors waiting v x p h k q = record {
 
 pub started-all : (nb : ℕ → List ℕ) (colors waiting : List ℕ) (v n : ℕ) → Started nb v colors waiting → v ≤ n → n ≤ v → Started nb n colors waiting
 started-all nb colors waiting v n p h k = let e : v ≡ n = omega arith in rw e at p
-
--- An item has fewer neighbours than a count can tell.
-pub neighbors-few : (kind : Kind) (ends starts entries : List ℕ) (items : ℕ) → Tabled kind ends starts entries items → (v x : ℕ) → v < items → x ≡ length (neighborsOf kind ends v) → x < 65536
-neighbors-few kind ends starts entries items t v x h e = omega (arith, neighborhood kind ends items (t .sized) .few v h)
 
 none-colored : (colors us : List ℕ) → ((u : ℕ) → colorOf colors u ≡ noColor) → coloredAmong colors us ≡ []
 unfolding coloredAmong
@@ -74,14 +70,14 @@ pub zero-at : (n v : ℕ) → _≡_ {A = ℕ} (getD (replicate n 0) v 0) 0
 zero-at n v = elim (decLt v n) [ yes h ↦ getD-replicate n v 0 0 h | no h ↦ List·getD-eq-default (replicate n 0) 0 (rw (length-replicate {A = ℕ} n 0) (omega arith)) ]
 
 -- The counts are ready for the presets.
-pub started-ready : (kind : Kind) (ends starts entries : List ℕ) (items : ℕ) (colors saturations waiting : List ℕ) → Tabled kind ends starts entries items
-    → length colors ≡ items → saturations ≡ replicate 4096 0 → length waiting ≡ 4096 → Started (neighborsOf kind ends) items colors waiting → Ready kind ends starts entries colors saturations waiting
-started-ready kind ends starts entries items colors saturations waiting tabled size zeros room started =
-    let few = items-few kind ends items (tabled .sized) in
+pub started-ready : (kind : Kind) (n : ℕ) (ends starts entries : List ℕ) (items : ℕ) (colors saturations waiting : List ℕ) → Tabled kind n ends starts entries items
+    → length colors ≡ items → saturations ≡ replicate 4096 0 → length waiting ≡ 4096 → Started (neighborsOf kind n ends) items colors waiting → Ready kind n ends starts entries colors saturations waiting
+started-ready kind n ends starts entries items colors saturations waiting tabled size zeros room started =
+    let few = items-few kind n ends items (tabled .sized) in
     record {
       tabled = rw size tabled;
-      counted = rw size (started-counted (neighborsOf kind ends) items colors saturations waiting size started (λ v. ap (λ (l : List ℕ). getD l v 0) zeros ∙ zero-at 4096 v));
-      cleared = record { counts = λ v n. absurd (n (started-bare (neighborsOf kind ends) items colors waiting size started v)) };
+      counted = rw size (started-counted (neighborsOf kind n ends) items colors saturations waiting size started (λ v. ap (λ (l : List ℕ). getD l v 0) zeros ∙ zero-at 4096 v));
+      cleared = record { counts = λ v d. absurd (d (started-bare (neighborsOf kind n ends) items colors waiting size started v)) };
       saturations-room = omega (arith, few, ap length zeros ∙ length-replicate {A = ℕ} 4096 0);
       waiting-room = omega (arith, few);
     }

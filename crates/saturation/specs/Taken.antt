@@ -130,51 +130,51 @@ none-taken colors v c h e p = let q : getD colors v 0 ≡ c = color-read colors 
 -- ---- the state between two turns
 
 -- A graph that passed the checks, with its table, and the counts of its items.
-pub record Ready (kind : Kind) (ends starts entries colors saturations waiting : List ℕ) : Type 0 where
-  pub tabled : Tabled kind ends starts entries (length colors)
-  pub counted : Counted (neighborsOf kind ends) (length colors) colors saturations waiting
+pub record Ready (kind : Kind) (n : ℕ) (ends starts entries colors saturations waiting : List ℕ) : Type 0 where
+  pub tabled : Tabled kind n ends starts entries (length colors)
+  pub counted : Counted (neighborsOf kind n ends) (length colors) colors saturations waiting
   pub cleared : Cleared colors saturations waiting
   pub saturations-room : length colors ≤ length saturations
   pub waiting-room : length colors ≤ length waiting
 
-module _ (kind : Kind) (ends starts entries colors s₀ w₀ : List ℕ) (v c : ℕ) (ready : Ready kind ends starts entries colors s₀ w₀) (inside : v < length colors) (bare : colorOf colors v ≡ noColor)
+module _ (kind : Kind) (n : ℕ) (ends starts entries colors s₀ w₀ : List ℕ) (v c : ℕ) (ready : Ready kind n ends starts entries colors s₀ w₀) (inside : v < length colors) (bare : colorOf colors v ≡ noColor)
     (real : c ≡ noColor → ⊥) where
-  abbrev hood : Neighborhood (neighborsOf kind ends) (length colors)
-  hood = neighborhood kind ends (length colors) (ready .tabled .sized)
+  abbrev hood : Neighborhood (neighborsOf kind n ends) (length colors)
+  hood = neighborhood kind n ends (length colors) (ready .tabled .sized)
 
   abbrev us : List ℕ
   us = around kind ends starts entries v
 
   -- What noting the colour needs: the graph, room in the counts, and lists that are long enough.
-  pub take-tabled : Tabled kind ends starts entries (length (set colors v c))
+  pub take-tabled : Tabled kind n ends starts entries (length (set colors v c))
   take-tabled = rw (length-set colors v c) (ready .tabled)
 
   pub take-inside : v < length (set colors v c)
   take-inside = rw (length-set colors v c) inside
 
   pub take-room : (m₀ : List ℕ) → Room (set colors v c) us s₀ w₀ m₀
-  take-room = taken-room (neighborsOf kind ends) (length colors) hood colors s₀ w₀ us v c refl (ready .counted) inside bare real (λ u d. around-times kind ends starts entries (length colors) (ready .tabled) v u inside d)
+  take-room = taken-room (neighborsOf kind n ends) (length colors) hood colors s₀ w₀ us v c refl (ready .counted) inside bare real (λ u d. around-times kind n ends starts entries (length colors) (ready .tabled) v u inside d)
 
   pub take-sizes : (m : List ℕ) → length colors ≤ length m → (length (set colors v c) ≤ length s₀) × (length (set colors v c) ≤ length w₀) × (length (set colors v c) ≤ length m)
   take-sizes m h = rw (length-set colors v c) (ready .saturations-room, ready .waiting-room, h)
 
   -- The counts afterwards, those of v cleared.
-  pub take-ready : (m₀ s w m : List ℕ) → Known us (neighborsOf kind ends) colors c m₀ → Noted (set colors v c) us s₀ w₀ m₀ s w m
-      → length s ≡ length s₀ → length w ≡ length w₀ → Ready kind ends starts entries (set colors v c) (set s v 0) (set w v 0)
+  pub take-ready : (m₀ s w m : List ℕ) → Known us (neighborsOf kind n ends) colors c m₀ → Noted (set colors v c) us s₀ w₀ m₀ s w m
+      → length s ≡ length s₀ → length w ≡ length w₀ → Ready kind n ends starts entries (set colors v c) (set s v 0) (set w v 0)
   take-ready m₀ s w m known noted ls lw =
-      let counts = taken-counted (neighborsOf kind ends) (length colors) hood colors s₀ w₀ us v c refl (ready .counted) inside bare real (λ u d. around-times kind ends starts entries (length colors) (ready .tabled) v u inside d) m₀ s w m known noted in
+      let counts = taken-counted (neighborsOf kind n ends) (length colors) hood colors s₀ w₀ us v c refl (ready .counted) inside bare real (λ u d. around-times kind n ends starts entries (length colors) (ready .tabled) v u inside d) m₀ s w m known noted in
       record {
         tabled = take-tabled;
-        counted = rw (length-set colors v c) (clear-counted (neighborsOf kind ends) (length colors) (set colors v c) s w v counts (λ e. real (sym (color-set-same colors v c inside) ∙ e)));
+        counted = rw (length-set colors v c) (clear-counted (neighborsOf kind n ends) (length colors) (set colors v c) s w v counts (λ e. real (sym (color-set-same colors v c inside) ∙ e)));
         cleared = clear-cleared colors us s₀ w₀ m₀ s w m v c (ready .cleared) noted (omega (arith, inside, ready .saturations-room)) (omega (arith, inside, ready .waiting-room));
         saturations-room = omega (arith, ready .saturations-room, length-set colors v c, length-set s v 0);
         waiting-room = omega (arith, ready .waiting-room, length-set colors v c, length-set w v 0);
       }
 
   -- The same where v waits for no neighbour: only its own counts are cleared.
-  pub take-idle : getD w₀ v 0 ≡ 0 → Ready kind ends starts entries (set colors v c) (set s₀ v 0) w₀
+  pub take-idle : getD w₀ v 0 ≡ 0 → Ready kind n ends starts entries (set colors v c) (set s₀ v 0) w₀
   take-idle z =
       let m = stored (markOf kind ends starts entries colors c) us (replicate 4096 0) in
-      let noted = idle-noted (neighborsOf kind ends) (length colors) hood colors s₀ w₀ us v c refl (ready .counted) inside bare real (λ u d. around-times kind ends starts entries (length colors) (ready .tabled) v u inside d) z m in
-      let marks = known kind ends starts entries colors c (ready .tabled) real us (replicate 4096 0) m (omega (arith, length-replicate {A = ℕ} 4096 0)) refl in
-      subst (Ready kind ends starts entries (set colors v c) (set s₀ v 0)) (ap (set w₀ v) (sym z) ∙ set-getD w₀ v 0) (take-ready m s₀ w₀ m marks noted refl refl)
+      let noted = idle-noted (neighborsOf kind n ends) (length colors) hood colors s₀ w₀ us v c refl (ready .counted) inside bare real (λ u d. around-times kind n ends starts entries (length colors) (ready .tabled) v u inside d) z m in
+      let marks = known kind n ends starts entries colors c (ready .tabled) real us (replicate 4096 0) m (omega (arith, length-replicate {A = ℕ} 4096 0)) refl in
+      subst (Ready kind n ends starts entries (set colors v c) (set s₀ v 0)) (ap (set w₀ v) (sym z) ∙ set-getD w₀ v 0) (take-ready m s₀ w₀ m marks noted refl refl)

@@ -25,15 +25,16 @@ use items::second_node;
 // Before any item has a colour: each waits for all its neighbours.
 pub(crate) fn start(
     kind: Kind,
+    n: usize,
     ends: &[u16],
     starts: &[u16],
     entries: &[u16],
     colors: &mut [u16],
     waiting: &mut [u16],
 )
-    requires { ⌜ Tabled kind (now ends) (now starts) (now entries) (length (now colors)) ⌝ }
+    requires { ⌜ Tabled kind n (now ends) (now starts) (now entries) (length (now colors)) ⌝ }
     requires { ⌜ length (now colors) ≤ length (now waiting) ⌝ }
-    ensures { λ _. ⌜ Started (neighborsOf kind (now (ends .entry))) (length (now (colors .entry))) (now (colors .exit)) (now (waiting .exit)) ⌝ }
+    ensures { λ _. ⌜ Started (neighborsOf kind n (now (ends .entry))) (length (now (colors .entry))) (now (colors .exit)) (now (waiting .exit)) ⌝ }
 {
     let mut v = 0;
     while v < colors.len() {
@@ -94,6 +95,7 @@ fn note_all(
 // The neighbours of the item note the colour. An edge stands among the edges at its own ends, but it has its colour by then.
 fn note_neighbors(
     kind: Kind,
+    n: usize,
     ends: &[u16],
     starts: &[u16],
     entries: &[u16],
@@ -103,7 +105,7 @@ fn note_neighbors(
     marks: &mut [u8],
     item: NodeIndex,
 )
-    requires { ⌜ Tabled kind (now ends) (now starts) (now entries) (length (now colors)) ⌝ }
+    requires { ⌜ Tabled kind n (now ends) (now starts) (now entries) (length (now colors)) ⌝ }
     requires { ⌜ item .0 < length (now colors) ⌝ }
     requires { ⌜ Room (now colors) (around kind (now ends) (now starts) (now entries) (item .0)) (now saturations) (now waiting) (now marks) ⌝ }
     requires { ⌜ (length (now colors) ≤ length (now saturations)) × (length (now colors) ≤ length (now waiting)) × (length (now colors) ≤ length (now marks)) ⌝ }
@@ -141,6 +143,7 @@ fn note_neighbors(
 // An item without a colour takes this one, and its neighbours note it. With a colour it has no counts, so that it goes before no other.
 fn note_color(
     kind: Kind,
+    n: usize,
     ends: &[u16],
     starts: &[u16],
     entries: &[u16],
@@ -150,11 +153,11 @@ fn note_color(
     item: NodeIndex,
     color: Color,
 )
-    requires { ⌜ Ready kind (now ends) (now starts) (now entries) (now colors) (now saturations) (now waiting) ⌝ }
+    requires { ⌜ Ready kind n (now ends) (now starts) (now entries) (now colors) (now saturations) (now waiting) ⌝ }
     requires { ⌜ (item .0 < length (now colors)) × (colorOf (now colors) (item .0) ≡ noColor) ⌝ }
     requires { ⌜ (color .0 ≡ noColor → ⊥) ⌝ }
     ensures { λ _. ⌜ now (colors .exit) ≡ set (now (colors .entry)) (item .0) (color .0) ⌝ }
-    ensures { λ _. ⌜ Ready kind (now (ends .entry)) (now (starts .entry)) (now (entries .entry)) (now (colors .exit)) (now (saturations .exit)) (now (waiting .exit)) ⌝ }
+    ensures { λ _. ⌜ Ready kind n (now (ends .entry)) (now (starts .entry)) (now (entries .entry)) (now (colors .exit)) (now (saturations .exit)) (now (waiting .exit)) ⌝ }
 {
     let mut marks = [0u8; 4096];
     mark_used(kind, ends, starts, entries, colors, color, &mut marks, item);
@@ -162,6 +165,7 @@ fn note_color(
     colors[v] = color.0;
     note_neighbors(
         kind,
+        n,
         ends,
         starts,
         entries,
@@ -178,6 +182,7 @@ fn note_color(
 // An item without a colour takes one, or stays without. Where no neighbour waits for a colour there is none to note it.
 pub(crate) fn take_color(
     kind: Kind,
+    n: usize,
     ends: &[u16],
     starts: &[u16],
     entries: &[u16],
@@ -187,10 +192,10 @@ pub(crate) fn take_color(
     item: NodeIndex,
     color: Color,
 )
-    requires { ⌜ Ready kind (now ends) (now starts) (now entries) (now colors) (now saturations) (now waiting) ⌝ }
+    requires { ⌜ Ready kind n (now ends) (now starts) (now entries) (now colors) (now saturations) (now waiting) ⌝ }
     requires { ⌜ (item .0 < length (now colors)) × (colorOf (now colors) (item .0) ≡ noColor) ⌝ }
     ensures { λ _. ⌜ now (colors .exit) ≡ set (now (colors .entry)) (item .0) (color .0) ⌝ }
-    ensures { λ _. ⌜ Ready kind (now (ends .entry)) (now (starts .entry)) (now (entries .entry)) (now (colors .exit)) (now (saturations .exit)) (now (waiting .exit)) ⌝ }
+    ensures { λ _. ⌜ Ready kind n (now (ends .entry)) (now (starts .entry)) (now (entries .entry)) (now (colors .exit)) (now (saturations .exit)) (now (waiting .exit)) ⌝ }
 {
     if color.0 == Color::NONE {
         return;
@@ -203,6 +208,7 @@ pub(crate) fn take_color(
     }
     note_color(
         kind,
+        n,
         ends,
         starts,
         entries,

@@ -5,16 +5,13 @@ ghost use Rattle.graph.specs.Report.{reportOfColoring};
 ghost use Rattle.graph.specs.Check.{Passed};
 ghost use Rattle.graph.specs.Color.{daysOf};
 ghost use Rattle.greedy.specs.Saturation.{saturationColors};
-ghost use Rattle.greedy.specs.Call.{greedyNodes, greedyEdges};
-ghost use Rattle.items.specs.Items.{itemsOf};
-ghost use Rattle.saturation.specs.Same.{listNeighbors};
+ghost use Rattle.items.specs.Items.{itemsOf, neighborsOf, greedyOf};
 use graph::Checked;
 use graph::Coloring;
 use graph::days_of;
-use greedy::check_edges;
-use greedy::check_nodes;
 use incidence::incidence_front;
 use items::Kind;
+use items::check_items;
 use turns::run;
 
 mod counts;
@@ -25,7 +22,7 @@ fn color_checked(kind: Kind, n: usize, ends: &[u16], presets: &[u16], colors: &m
     requires { ⌜ Passed n (now ends) ⌝ }
     requires { ⌜ (length (now presets) ≡ itemsOf kind n (now ends)) × (length (now colors) ≡ itemsOf kind n (now ends)) ⌝ }
     ensures { λ r. ⌜ r ≡ daysOf (now (colors .exit)) ⌝ }
-    ensures { λ _. ⌜ now (colors .exit) ≡ saturationColors (listNeighbors kind n (now (ends .entry))) (itemsOf kind n (now (ends .entry))) (now (presets .entry)) ⌝ }
+    ensures { λ _. ⌜ now (colors .exit) ≡ saturationColors (neighborsOf kind n (now (ends .entry))) (itemsOf kind n (now (ends .entry))) (now (presets .entry)) ⌝ }
 {
     let mut starts = [0u16; 513];
     let mut entries = [0u16; 8192];
@@ -34,6 +31,7 @@ fn color_checked(kind: Kind, n: usize, ends: &[u16], presets: &[u16], colors: &m
     let mut waiting = [0u16; 4096];
     run(
         kind,
+        n,
         ends,
         &starts,
         &entries,
@@ -45,34 +43,18 @@ fn color_checked(kind: Kind, n: usize, ends: &[u16], presets: &[u16], colors: &m
     days_of(colors)
 }
 
-// Presets are set first; then the node with the most different colours on its neighbours is next, among these the one with the most
+// Presets are set first; then the item with the most different colours on its neighbours is next, among these the one with the most
 // uncoloured neighbours, among these the lowest. It takes the smallest colour that no neighbour has.
-pub fn color_nodes(n: usize, ends: &[u16], presets: &[u16], colors: &mut [u16]) -> Coloring
-    ensures { λ r. ⌜ reportOfColoring r ≡ greedyNodes saturationColors n (now (ends .entry)) (now (presets .entry)) (now (colors .entry)) .report ⌝ }
-    ensures { λ _. ⌜ now (colors .exit) ≡ greedyNodes saturationColors n (now (ends .entry)) (now (presets .entry)) (now (colors .entry)) .colors ⌝ }
+pub fn color(kind: Kind, n: usize, ends: &[u16], presets: &[u16], colors: &mut [u16]) -> Coloring
+    ensures { λ r. ⌜ reportOfColoring r ≡ greedyOf kind saturationColors n (now (ends .entry)) (now (presets .entry)) (now (colors .entry)) .report ⌝ }
+    ensures { λ _. ⌜ now (colors .exit) ≡ greedyOf kind saturationColors n (now (ends .entry)) (now (presets .entry)) (now (colors .entry)) .colors ⌝ }
 {
-    match check_nodes(n, ends, presets.len(), colors.len()) {
+    match check_items(kind, n, ends, presets.len(), colors.len()) {
         Checked::Refused(refusal) => {
             return Coloring::Refused(refusal);
         }
         Checked::Accepted(_graph) => {
-            let days = color_checked(Kind::Nodes, n, ends, presets, colors);
-            Coloring::Accepted { days }
-        }
-    }
-}
-
-// The same with edges for nodes: neighbours are the edges that share an end.
-pub fn color_edges(n: usize, ends: &[u16], presets: &[u16], colors: &mut [u16]) -> Coloring
-    ensures { λ r. ⌜ reportOfColoring r ≡ greedyEdges saturationColors n (now (ends .entry)) (now (presets .entry)) (now (colors .entry)) .report ⌝ }
-    ensures { λ _. ⌜ now (colors .exit) ≡ greedyEdges saturationColors n (now (ends .entry)) (now (presets .entry)) (now (colors .entry)) .colors ⌝ }
-{
-    match check_edges(n, ends, presets.len(), colors.len()) {
-        Checked::Refused(refusal) => {
-            return Coloring::Refused(refusal);
-        }
-        Checked::Accepted(_graph) => {
-            let days = color_checked(Kind::Edges, n, ends, presets, colors);
+            let days = color_checked(kind, n, ends, presets, colors);
             Coloring::Accepted { days }
         }
     }

@@ -89,6 +89,7 @@ fn choose(colors: &[u16], saturations: &[u16], waiting: &[u16]) -> Choice
 // One turn: the chosen item takes the smallest colour that no neighbour has.
 fn turn(
     kind: Kind,
+    n: usize,
     ends: &[u16],
     starts: &[u16],
     entries: &[u16],
@@ -96,9 +97,9 @@ fn turn(
     saturations: &mut [u16],
     waiting: &mut [u16],
 )
-    requires { ⌜ Ready kind (now ends) (now starts) (now entries) (now colors) (now saturations) (now waiting) ⌝ }
-    ensures { λ _. ⌜ now (colors .exit) ≡ turnOf (neighborsOf kind (now (ends .entry))) (length (now (colors .entry))) (now (colors .entry)) ⌝ }
-    ensures { λ _. ⌜ Ready kind (now (ends .entry)) (now (starts .entry)) (now (entries .entry)) (now (colors .exit)) (now (saturations .exit)) (now (waiting .exit)) ⌝ }
+    requires { ⌜ Ready kind n (now ends) (now starts) (now entries) (now colors) (now saturations) (now waiting) ⌝ }
+    ensures { λ _. ⌜ now (colors .exit) ≡ turnOf (neighborsOf kind n (now (ends .entry))) (length (now (colors .entry))) (now (colors .entry)) ⌝ }
+    ensures { λ _. ⌜ Ready kind n (now (ends .entry)) (now (starts .entry)) (now (entries .entry)) (now (colors .exit)) (now (saturations .exit)) (now (waiting .exit)) ⌝ }
 {
     match choose(colors, saturations, waiting) {
         Choice::Nothing => {}
@@ -106,6 +107,7 @@ fn turn(
             let color = free_color(kind, ends, starts, entries, colors, item);
             take_color(
                 kind,
+                n,
                 ends,
                 starts,
                 entries,
@@ -122,6 +124,7 @@ fn turn(
 // As many turns as there are items.
 fn take_turns(
     kind: Kind,
+    n: usize,
     ends: &[u16],
     starts: &[u16],
     entries: &[u16],
@@ -129,12 +132,12 @@ fn take_turns(
     saturations: &mut [u16],
     waiting: &mut [u16],
 )
-    requires { ⌜ Ready kind (now ends) (now starts) (now entries) (now colors) (now saturations) (now waiting) ⌝ }
-    ensures { λ _. ⌜ now (colors .exit) ≡ saturationColors (neighborsOf kind (now (ends .entry))) (length (now (colors .entry))) (now (colors .entry)) ⌝ }
+    requires { ⌜ Ready kind n (now ends) (now starts) (now entries) (now colors) (now saturations) (now waiting) ⌝ }
+    ensures { λ _. ⌜ now (colors .exit) ≡ saturationColors (neighborsOf kind n (now (ends .entry))) (length (now (colors .entry))) (now (colors .entry)) ⌝ }
 {
     let mut turns = 0;
     while turns < colors.len() {
-        turn(kind, ends, starts, entries, colors, saturations, waiting);
+        turn(kind, n, ends, starts, entries, colors, saturations, waiting);
         turns += 1;
     }
 }
@@ -142,6 +145,7 @@ fn take_turns(
 // The presets, one item after the other.
 fn set_presets(
     kind: Kind,
+    n: usize,
     ends: &[u16],
     starts: &[u16],
     entries: &[u16],
@@ -150,15 +154,16 @@ fn set_presets(
     saturations: &mut [u16],
     waiting: &mut [u16],
 )
-    requires { ⌜ Ready kind (now ends) (now starts) (now entries) (now colors) (now saturations) (now waiting) ⌝ }
+    requires { ⌜ Ready kind n (now ends) (now starts) (now entries) (now colors) (now saturations) (now waiting) ⌝ }
     requires { ⌜ (length (now colors) ≡ length (now presets)) × Preset (now presets) 0 (now colors) ⌝ }
     ensures { λ _. ⌜ now (colors .exit) ≡ now (presets .entry) ⌝ }
-    ensures { λ _. ⌜ Ready kind (now (ends .entry)) (now (starts .entry)) (now (entries .entry)) (now (colors .exit)) (now (saturations .exit)) (now (waiting .exit)) ⌝ }
+    ensures { λ _. ⌜ Ready kind n (now (ends .entry)) (now (starts .entry)) (now (entries .entry)) (now (colors .exit)) (now (saturations .exit)) (now (waiting .exit)) ⌝ }
 {
     let mut v = 0;
     while v < presets.len() {
         take_color(
             kind,
+            n,
             ends,
             starts,
             entries,
@@ -175,6 +180,7 @@ fn set_presets(
 // The whole colouring: nothing coloured, the presets, the turns.
 pub(crate) fn run(
     kind: Kind,
+    n: usize,
     ends: &[u16],
     starts: &[u16],
     entries: &[u16],
@@ -183,13 +189,14 @@ pub(crate) fn run(
     saturations: &mut [u16],
     waiting: &mut [u16],
 )
-    requires { ⌜ Tabled kind (now ends) (now starts) (now entries) (length (now colors)) ⌝ }
+    requires { ⌜ Tabled kind n (now ends) (now starts) (now entries) (length (now colors)) ⌝ }
     requires { ⌜ (length (now colors) ≡ length (now presets)) × (now saturations ≡ replicate 4096 0) × (length (now waiting) ≡ 4096) ⌝ }
-    ensures { λ _. ⌜ now (colors .exit) ≡ saturationColors (neighborsOf kind (now (ends .entry))) (length (now (colors .entry))) (now (presets .entry)) ⌝ }
+    ensures { λ _. ⌜ now (colors .exit) ≡ saturationColors (neighborsOf kind n (now (ends .entry))) (length (now (colors .entry))) (now (presets .entry)) ⌝ }
 {
-    start(kind, ends, starts, entries, colors, waiting);
+    start(kind, n, ends, starts, entries, colors, waiting);
     set_presets(
         kind,
+        n,
         ends,
         starts,
         entries,
@@ -198,5 +205,5 @@ pub(crate) fn run(
         saturations,
         waiting,
     );
-    take_turns(kind, ends, starts, entries, colors, saturations, waiting);
+    take_turns(kind, n, ends, starts, entries, colors, saturations, waiting);
 }

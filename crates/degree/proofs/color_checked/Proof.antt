@@ -3,46 +3,64 @@ use mathlib.Core.Path.{sym, _∙_}
 use native.Mathlib.Omega.{arith}
 use lib.Seq.{length-take-le}
 use borrow.Author.Needs.{needs}
-use Rattle.degree.specs.ColorLaws.{stretch-few, nodes-countable, order-found, turns-ready, degree-colored}
-use Rattle.degree.specs.CountLaws.{zeros-at}
+use Rattle.items.specs.Items.{items-tabled}
+use Rattle.degree.specs.ColorLaws.{degrees-countable, order-found, order-waits, degree-colored}
 use Rattle.degree.proofs.color_checked.Statement.{statement}
 use Rattle.degree.proofs.color_checked.Tie as tie
 
-node-degrees-requires : tie.Need-node-degrees-requires
-node-degrees-requires c κs = let p = c .before .before .before .before .before .before .before .before .before .before .before .pre .0 in ((omega (arith, p .nodes), p .nodes), stretch-few _ _ _ _ p (c .before .before .before .before .before .incidence-front .ensures .1 .1 p (omega (arith, p .nodes)) (omega (arith, p .even, p .edges))))
+note-degrees-requires : tie.Need-note-degrees-requires
+note-degrees-requires c κs =
+    let at-table = c .before .before .before .before .before in
+    let start = at-table .before .before .before .before .before .before .before .before .before in
+    let p = start .pre in
+    let table = at-table .incidence-front .ensures .1 .1 (p .0) (omega (arith, p .0 .nodes)) (omega (arith, p .0 .even, p .0 .edges)) in
+    (items-tabled _ _ _ _ _ (start .args .presets .now) (p .0) table (p .1 .0 .0), omega (arith, p .1 .0 .0, p .1 .1 .degrees-room))
 
 falling-order-requires : tie.Need-falling-order-requires
 falling-order-requires c κs =
-    let p = c .before .before .before .before .before .before .before .before .before .before .before .before .before .before .before .before .pre in
-    (nodes-countable _ _ _ _ (p .0) (c .before .before .before .before .before .before .before .before .before .before .incidence-front .ensures .1 .1 (p .0) (omega (arith, p .0 .nodes)) (omega (arith, p .0 .even, p .0 .edges))) _ _ (c .before .before .before .before .node-degrees .ensures) (p .1 .0) (omega (arith, p .0 .nodes, c .before .before .before .before .node-degrees .kept .1 .1 .1 .0)), (zeros-at 4097, omega (arith, p .0 .nodes, p .1 .0)))
+    let at-degrees = c .before .before .before .before .before in
+    let at-table = at-degrees .before .before .before .before .before .before in
+    let p = at-table .before .before .before .before .before .before .before .before .before .pre in
+    let d = at-degrees .note-degrees in
+    (degrees-countable _ _ _ _ _ _ _ _ (p .0) (p .1 .1) (p .1 .0 .0) (d .ensures) (d .kept .1 .1 .1 .1 .1 .1 .0), (p .1 .1 .zeros, omega (arith, p .1 .0 .0, p .1 .1 .order-room)))
 
 slice-aggregate-color-in-order-3 : tie.Need-slice-aggregate-color-in-order-3
-slice-aggregate-color-in-order-3 c = let f = c .before .before .before .before .before .before .before .before .before .falling-order in sym (length-take-le _ _ (omega (arith, f .ensures .0, f .kept .1 .1 .1 .0)))
+slice-aggregate-color-in-order-3 c =
+    let at-order = c .before .before .before .before .before .before .before .before .before .before .before in
+    let f = at-order .falling-order in
+    sym (length-take-le _ _ (omega (arith, f .ensures .0, f .kept .1 .1 .1 .0)))
 
 color-in-order-requires : tie.Need-color-in-order-requires
 color-in-order-requires c κs =
-    let p = c .before .before .before .before .before .before .before .before .before .before .before .before .before .before .before .before .before .before .before .before .before .before .before .before .before .before .before .pre in
-    let table = c .before .before .before .before .before .before .before .before .before .before .before .before .before .before .before .before .before .before .before .before .before .incidence-front .ensures .1 .1 (p .0) (omega (arith, p .0 .nodes)) (omega (arith, p .0 .even, p .0 .edges)) in
-    let order = order-found _ _ _ _ (p .0) table _ _ (c .before .before .before .before .before .before .before .before .before .before .before .before .before .before .before .node-degrees .ensures) (p .1 .0) _ (c .before .before .before .before .before .before .before .before .before .before .falling-order .ensures .1) in
-    turns-ready _ _ _ _ _ _ (c .before .before .before .before .before .before .copy-colors .last .1 .0) (p .0) table order (c .before .before .before .before .before .before .copy-colors .kept .1 .0 ∙ p .1 .1)
+    let at-copy = c .before .before .before .before .before .before in
+    let at-order = at-copy .before .before .before .before .before .before in
+    let at-degrees = at-order .before .before .before .before .before .before in
+    let at-table = at-degrees .before .before .before .before .before .before in
+    let p = at-table .before .before .before .before .before .before .before .before .before .pre in
+    let table = at-table .incidence-front .ensures .1 .1 (p .0) (omega (arith, p .0 .nodes)) (omega (arith, p .0 .even, p .0 .edges)) in
+    let order = order-found _ _ _ _ _ _ _ _ (p .0) (p .1 .1) (p .1 .0 .0) (at-degrees .note-degrees .ensures) _ (at-order .falling-order .ensures .1) in
+    (items-tabled _ _ _ _ _ (at-copy .copy-colors .last .1 .0) (p .0) table (at-copy .copy-colors .kept .1 .0 ∙ p .1 .0 .1), order-waits _ _ _ _ _ _ (p .1 .0 .0) (p .1 .0 .1) order (at-copy .copy-colors .ensures))
 
 returns : tie.Need-returns
 returns c =
-    let p = c .before .before .before .before .before .before .before .before .before .before .before .before .before .before .before .before .before .before .before .before .before .before .before .before .before .before .before .before .before .before .pre in
-    let table = c .before .before .before .before .before .before .before .before .before .before .before .before .before .before .before .before .before .before .before .before .before .before .before .before .incidence-front .ensures .1 .1 (p .0) (omega (arith, p .0 .nodes)) (omega (arith, p .0 .even, p .0 .edges)) in
-    let order = order-found _ _ _ _ (p .0) table _ _ (c .before .before .before .before .before .before .before .before .before .before .before .before .before .before .before .before .before .before .node-degrees .ensures) (p .1 .0) _ (c .before .before .before .before .before .before .before .before .before .before .before .before .before .falling-order .ensures .1) in
-    degree-colored _ _ _ _ _ _ _ (p .1 .0) (p .1 .1) order (c .before .before .before .before .before .before .before .before .before .copy-colors .ensures) (c .before .before .color-in-order .ensures)
+    let at-turns = c .before .before .before .before in
+    let at-copy = at-turns .before .before .before .before .before .before .before in
+    let at-order = at-copy .before .before .before .before .before .before in
+    let at-degrees = at-order .before .before .before .before .before .before in
+    let at-table = at-degrees .before .before .before .before .before .before in
+    let p = at-table .before .before .before .before .before .before .before .before .before .pre in
+    let order = order-found _ _ _ _ _ _ _ _ (p .0) (p .1 .1) (p .1 .0 .0) (at-degrees .note-degrees .ensures) _ (at-order .falling-order .ensures .1) in
+    (c .days-of .ensures, degree-colored _ _ _ _ _ _ _ (p .1 .0 .0) (p .1 .0 .1) order (at-copy .copy-colors .ensures) (at-turns .color-in-order .ensures))
 
 pub color-checked-spec : {M : Type 1} → statement M
 color-checked-spec =
     tie.close
     (tie.spec
-    (λ c. search needs) (λ c. search needs) (λ c κs. search needs) (λ c. search needs) (λ c. search needs) (λ c. search needs)
-    node-degrees-requires
-    (λ c. search needs) (λ c. search needs) (λ c. search needs)
+    (λ c. search needs) (λ c. search needs) (λ c κs. search needs) (λ c. search needs) (λ c. search needs)
+    note-degrees-requires
     falling-order-requires
     (λ c κs. search needs) (λ c. search needs) (λ c. search needs) (λ c. search needs)
     slice-aggregate-color-in-order-3
     color-in-order-requires
-    (λ c. search needs)
+    (λ c κs. search needs) (λ c. search needs) (λ c. search needs) (λ c. search needs) (λ c. search needs)
     returns)

@@ -1,51 +1,40 @@
--- `color_in_order` meets its contract. The invariant: the turns left give what all turns give at first.
-use Prim.Native.Nat.{_≤_, _-_}
-use mathlib.Core.Path.{_≡_}
-use native.Mathlib.Omega.{arith}
-use lib.ListN.{length, drop, length-set}
+-- `color_in_order` meets its contract: each arm's kind is the one met.
 use borrow.Author.Needs.{needs}
-use Rattle.graph.specs.Edges.{edgeCount, neighbors}
-use Rattle.greedy.specs.Degree.{colorInOrder}
-use Rattle.degree.specs.ColorLaws.{node-turn, turns-done}
+use Rattle.degree.specs.ColorLaws.{kind-tabled, kind-turns}
 use Rattle.degree.proofs.color_in_order.Statement.{statement}
 use Rattle.degree.proofs.color_in_order.Tie as tie
 
-abbrev Inv-loop : tie.InvT-loop
-Inv-loop ends starts entries order colors₀ i₀ colors i = (i ≤ length order) × (length colors ≡ length colors₀) × (colorInOrder (neighbors ends (edgeCount ends)) (drop i order) colors ≡ colorInOrder (neighbors ends (edgeCount ends)) order colors₀)
+color-each-requires : tie.Need-color-each-requires
+color-each-requires c κs =
+    let at-kind = c .before in
+    let start = at-kind .before .before .before .before .before .before .before in
+    (kind-tabled _ _ (at-kind .enum-told .given .1) _ _ _ _ _ (start .pre .0), start .pre .1)
 
-abbrev μ-loop : tie.MeasureT-loop
-μ-loop ends starts entries order colors₀ i₀ colors i = length order - i
+color-each-requires-2 : tie.Need-color-each-requires-2
+color-each-requires-2 c κs =
+    let at-kind = c .before in
+    let start = at-kind .before .before .before .before .before .before .before in
+    (kind-tabled _ _ (at-kind .enum-told2 .given .1) _ _ _ _ _ (start .pre .0), start .pre .1)
 
-loop-holds : tie.Need-loop-holds Inv-loop μ-loop
-loop-holds c = search needs
+returns : tie.Need-returns
+returns c =
+    let at-kind = c .before .before .before .before in
+    kind-turns _ _ (at-kind .enum-told .given .1) _ _ _ _ _ (c .before .before .color-each .ensures)
 
-cast-colors : tie.Need-cast-colors Inv-loop μ-loop
-cast-colors c = omega (arith, c .before .before .before .shared-slice-known5 .given (c .before .before .before .before .before .loop .i))
-
-mul-colors : tie.Need-mul-colors Inv-loop μ-loop
-mul-colors c = omega (arith, c .before .before .before .shared-slice-known5 .given (c .before .before .before .before .before .loop .i))
-
-slice-write-colors : tie.Need-slice-write-colors Inv-loop μ-loop
-slice-write-colors c = omega (arith, c .before .before .before .before .before .before .before .before .before .before .before .pre .1 .1 (c .before .before .before .before .before .loop .i) (c .before .before .before .before .loop-test .taken))
-
-loop-again : tie.Need-loop-again Inv-loop μ-loop
-loop-again c = let p = c .before .before .before .before .before .before .before .before .before .before .before .pre in let l = c .before .before .before .before .before .loop in (omega arith, simp length-set (l .inv .1), node-turn _ _ _ _ _ _ _ _ (p .0) (p .1 .0) (l .inv .2) (c .before .before .before .before .loop-test .taken) (p .1 .1 (l .i) (c .before .before .before .before .loop-test .taken)) (c .before .smallest-color .ensures))
-
-returns : tie.Need-returns Inv-loop μ-loop
-returns c = turns-done _ _ _ _ (c .before .loop .inv .2) (c .loop-test .left)
+returns-2 : tie.Need-returns-2
+returns-2 c =
+    let at-kind = c .before .before .before .before in
+    kind-turns _ _ (at-kind .enum-told2 .given .1) _ _ _ _ _ (c .before .before .color-each2 .ensures)
 
 pub color-in-order-spec : {M : Type 1} → statement M
 color-in-order-spec =
     tie.close
     (tie.spec
-    Inv-loop
-    μ-loop
-    loop-holds
-    (λ c. search needs) (λ c. search needs) (λ c κs. search needs)
-    cast-colors
-    mul-colors
-    slice-write-colors
-    (λ c. search needs) (λ c. search needs)
-    loop-again
     (λ c. search needs)
-    returns)
+    color-each-requires
+    (λ c. search needs)
+    color-each-requires-2
+    (λ c. search needs)
+    returns
+    (λ c. search needs)
+    returns-2)

@@ -8,21 +8,21 @@ use Rattle.greedy_color.specs.Rules.{presets-part, edges-without-presets
 use Rattle.greedy_color.proofs.greedy_edge_color.Statement.{statement}
 use Rattle.greedy_color.proofs.greedy_edge_color.Tie as tie
 
-slice-aggregate-color-edges : tie.Need-slice-aggregate-color-edges
-slice-aggregate-color-edges c = presets-part _ 4096 _ (omega arith)
+slice-aggregate-color : tie.Need-slice-aggregate-color
+slice-aggregate-color c = presets-part _ 4096 _ (omega arith)
 
 returns : tie.Need-returns
-returns c = let k = length (c .before .before .before .before .before .before .before .before .args .colors .now) in edges-without-presets _ _ k _ _ _ _ (take-replicate k 4096 65535 (omega arith)) (λ h e. e) (c .before .before .color-edges .ensures .0) (c .before .before .color-edges .ensures .1)
+returns c = let k = length (c .before .before .before .before .before .before .before .before .args .colors .now) in edges-without-presets _ _ k _ _ _ _ (take-replicate k 4096 65535 (omega arith)) (λ h e. e) (c .before .before .color .ensures .0) (c .before .before .color .ensures .1)
 
 returns-2 : tie.Need-returns-2
-returns-2 c = edges-without-presets _ _ 4096 _ _ _ _ refl (λ h e. omega (arith, h .edges)) (c .before .before .color-edges2 .ensures .0) (c .before .before .color-edges2 .ensures .1)
+returns-2 c = edges-without-presets _ _ 4096 _ _ _ _ refl (λ h e. omega (arith, h .edges)) (c .before .before .color2 .ensures .0) (c .before .before .color2 .ensures .1)
 
 pub greedy-edge-color-spec : {M : Type 1} → statement M
 greedy-edge-color-spec =
     tie.close
     (tie.spec
     (λ c. search needs)
-    slice-aggregate-color-edges
+    slice-aggregate-color
     (λ c κs. search needs) (λ c. search needs) (λ c κs. search needs) (λ c. search needs)
     returns
     (λ c. search needs)

@@ -8,21 +8,21 @@ use Rattle.greedy_color.specs.Rules.{presets-part, nodes-without-presets
 use Rattle.greedy_color.proofs.greedy_node_color.Statement.{statement}
 use Rattle.greedy_color.proofs.greedy_node_color.Tie as tie
 
-slice-aggregate-color-nodes : tie.Need-slice-aggregate-color-nodes
-slice-aggregate-color-nodes c = presets-part _ 512 _ (omega arith)
+slice-aggregate-color : tie.Need-slice-aggregate-color
+slice-aggregate-color c = presets-part _ 512 _ (omega arith)
 
 returns : tie.Need-returns
-returns c = let k = length (c .before .before .before .before .before .before .before .before .args .colors .now) in nodes-without-presets _ _ k _ _ _ _ (take-replicate k 512 65535 (omega arith)) (λ h e. e) (c .before .before .color-nodes .ensures .0) (c .before .before .color-nodes .ensures .1)
+returns c = let k = length (c .before .before .before .before .before .before .before .before .args .colors .now) in nodes-without-presets _ _ k _ _ _ _ (take-replicate k 512 65535 (omega arith)) (λ h e. e) (c .before .before .color .ensures .0) (c .before .before .color .ensures .1)
 
 returns-2 : tie.Need-returns-2
-returns-2 c = nodes-without-presets _ _ 512 _ _ _ _ refl (λ h e. omega (arith, h .nodes)) (c .before .before .color-nodes2 .ensures .0) (c .before .before .color-nodes2 .ensures .1)
+returns-2 c = nodes-without-presets _ _ 512 _ _ _ _ refl (λ h e. omega (arith, h .nodes)) (c .before .before .color2 .ensures .0) (c .before .before .color2 .ensures .1)
 
 pub greedy-node-color-spec : {M : Type 1} → statement M
 greedy-node-color-spec =
     tie.close
     (tie.spec
     (λ c. search needs)
-    slice-aggregate-color-nodes
+    slice-aggregate-color
     (λ c κs. search needs) (λ c. search needs) (λ c κs. search needs) (λ c. search needs)
     returns
     (λ c. search needs)

@@ -6,7 +6,7 @@ use Rattle.greedy_color.proofs.greedy_node_color_with_preset_colors.Sta
 use Rattle.greedy_color.proofs.greedy_node_color_with_preset_colors.Tie as tie
 
 returns : tie.Need-returns
-returns c = with-presets degreeColors degree-greedy _ _ _ _ _ _ (c .before .before .color-nodes .ensures .0) (c .before .before .color-nodes .ensures .1)
+returns c = with-presets degreeColors degree-greedy _ _ _ _ _ _ (c .before .before .color .ensures .0) (c .before .before .color .ensures .1)
 
 pub greedy-node-color-with-preset-colors-spec : {M : Type 1} → statement M
 greedy-node-color-with-preset-colors-spec =

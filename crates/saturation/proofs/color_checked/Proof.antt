@@ -2,7 +2,8 @@
 use mathlib.Core.Path.{refl, sym, _∙_}
 use native.Mathlib.Omega.{arith}
 use borrow.Author.Needs.{needs}
-use Rattle.saturation.specs.Same.{items-tabled, run-answer}
+use Rattle.items.specs.Items.{items-tabled}
+use Rattle.saturation.specs.Turns.{from-presets}
 use Rattle.saturation.proofs.color_checked.Statement.{statement}
 use Rattle.saturation.proofs.color_checked.Tie as tie
 
@@ -14,7 +15,7 @@ run-requires c κs =
     (items-tabled _ _ _ _ _ colors (p .0) (c .before .before .before .before .before .before .before .incidence-front .ensures .1 .1 (p .0) (omega (arith, p .0 .nodes)) (omega (arith, p .0 .even, p .0 .edges))) e, (e ∙ sym (p .1 .0), refl, refl))
 
 returns : tie.Need-returns
-returns c = (c .days-of .ensures, search (needs, run-answer))
+returns c = (c .days-of .ensures, search (needs, from-presets))
 
 pub color-checked-spec : {M : Type 1} → statement M
 color-checked-spec =

@@ -14,16 +14,16 @@ note-neighbors-requires c κs =
     let r = c .before .before .before .before .before .before .before .before .before .before .before .before .before .before .before .pre .0 in
     let a = c .before .before .before .before .before .before .before .before .before .before .before .before .before .before .before .pre .1 .0 in
     let n = c .before .before .before .before .before .before .before .before .before .before .before .before .before .before .before .pre .1 .1 in
-    let few = items-few _ _ _ (r .tabled .sized) in
-    (take-tabled _ _ _ _ _ _ _ _ _ r (a .0) (a .1) n, (take-inside _ _ _ _ _ _ _ _ _ r (a .0) (a .1) n, (take-room _ _ _ _ _ _ _ _ _ r (a .0) (a .1) n _, take-sizes _ _ _ _ _ _ _ _ _ r (a .0) (a .1) n (c .before .before .before .before .before .before .mark-used .last .1 .1 .1 .1 .1 .1 .0) (omega (arith, few, c .before .before .before .before .before .before .mark-used .kept .1 .1 .1 .1 .1 .1 .0)))))
+    let few = items-few _ _ _ _ (r .tabled .sized) in
+    (take-tabled _ _ _ _ _ _ _ _ _ _ r (a .0) (a .1) n, (take-inside _ _ _ _ _ _ _ _ _ _ r (a .0) (a .1) n, (take-room _ _ _ _ _ _ _ _ _ _ r (a .0) (a .1) n _, take-sizes _ _ _ _ _ _ _ _ _ _ r (a .0) (a .1) n (c .before .before .before .before .before .before .mark-used .last .1 .1 .1 .1 .1 .1 .0) (omega (arith, few, c .before .before .before .before .before .before .mark-used .kept .1 .1 .1 .1 .1 .1 .0)))))
 
 returns : tie.Need-returns
 returns c =
     let r = c .before .before .before .before .before .before .before .before .before .before .before .before .before .before .before .before .before .before .before .before .before .pre .0 in
     let a = c .before .before .before .before .before .before .before .before .before .before .before .before .before .before .before .before .before .before .before .before .before .pre .1 .0 in
     let n = c .before .before .before .before .before .before .before .before .before .before .before .before .before .before .before .before .before .before .before .before .before .pre .1 .1 in
-    let k = c .before .before .before .before .before .note-neighbors .kept in
-    (refl, take-ready _ _ _ _ _ _ _ _ _ r (a .0) (a .1) n _ _ _ _ (used-known _ _ _ _ _ _ (r .tabled) n _ _ _ (zero-at 4096) (omega arith) (c .before .before .before .before .before .before .before .before .before .before .before .before .mark-used .ensures)) (c .before .before .before .before .before .note-neighbors .ensures) (k .1 .1 .1 .1 .1 .0) (k .1 .1 .1 .1 .1 .1 .0))
+    let k = c .before .before .before .before .before .note-neighbors .kept .1 in
+    (refl, take-ready _ _ _ _ _ _ _ _ _ _ r (a .0) (a .1) n _ _ _ _ (used-known _ _ _ _ _ _ _ (r .tabled) n _ _ _ (zero-at 4096) (omega arith) (c .before .before .before .before .before .before .before .before .before .before .before .before .mark-used .ensures)) (c .before .before .before .before .before .note-neighbors .ensures) (k .1 .1 .1 .1 .1 .0) (k .1 .1 .1 .1 .1 .1 .0))
 
 pub note-color-spec : {M : Type 1} → statement M
 note-color-spec =

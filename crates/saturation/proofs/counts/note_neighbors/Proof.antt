@@ -11,7 +11,7 @@ note-all-requires c κs =
     let p = c .before .before .before .before .before .first-node .ensures in
     let q = c .before .before .before .before .second-node .ensures in
     let x = c .before .before .before .edges-at .ensures .0 in
-    (first-across _ _ _ _ _ (r .0) _ _ (r .1 .0) _ x p, (around-first _ _ _ _ _ _ _ _ p q _ x _ _ _ (r .1 .1 .0), r .1 .1 .1))
+    (first-across _ _ _ _ _ _ (r .0) _ _ (r .1 .0) _ x p, (around-first _ _ _ _ _ _ _ _ p q _ x _ _ _ (r .1 .1 .0), r .1 .1 .1))
 
 returns : tie.Need-returns
 returns c =
@@ -28,7 +28,7 @@ note-all-requires-2 c κs =
     let x = c .before .before .before .before .before .before .before .before .before .before .before .before .before .before .before .before .before .edges-at .ensures .0 in
     let k = c .before .before .before .before .before .before .before .before .before .before .before .before .before .note-all .kept in
     let y = c .before .before .before .edges-at2 .ensures .0 in
-    (second-across _ _ _ _ _ (r .0) _ _ (r .1 .0) _ y q, (around-second _ _ _ _ _ _ _ _ p q _ x (c .before .before .before .before .if1 .left) _ y _ _ _ _ _ _ (c .before .before .before .before .before .before .before .before .before .before .before .before .before .note-all .ensures) (r .1 .1 .0), (omega (arith, r .1 .1 .1 .0, k .1 .1 .1 .1 .0), omega (arith, r .1 .1 .1 .1, k .1 .1 .1 .1 .1 .0), omega (arith, r .1 .1 .1 .2, k .1 .1 .1 .1 .1 .1 .0))))
+    (second-across _ _ _ _ _ _ (r .0) _ _ (r .1 .0) _ y q, (around-second _ _ _ _ _ _ _ _ p q _ x (c .before .before .before .before .if1 .left) _ y _ _ _ _ _ _ (c .before .before .before .before .before .before .before .before .before .before .before .before .before .note-all .ensures) (r .1 .1 .0), (omega (arith, r .1 .1 .1 .0, k .1 .1 .1 .1 .0), omega (arith, r .1 .1 .1 .1, k .1 .1 .1 .1 .1 .0), omega (arith, r .1 .1 .1 .2, k .1 .1 .1 .1 .1 .1 .0))))
 
 returns-2 : tie.Need-returns-2
 returns-2 c =

@@ -4,31 +4,31 @@ use mathlib.Core.Path.{_≡_, refl, _∙_}
 use native.Mathlib.Omega.{arith}
 use lib.ListN.{length}
 use borrow.Author.Needs.{needs}
-use Rattle.saturation.specs.Start.{Started, started-none, started-more, started-all, neighbors-few}
-use Rattle.items.specs.Items.{neighborsOf, items-few, neighbors-counted}
+use Rattle.saturation.specs.Start.{Started, started-none, started-more, started-all}
+use Rattle.items.specs.Items.{neighborsOf, items-few, neighbors-few, neighbors-counted}
 use Rattle.saturation.proofs.counts.start.Statement.{statement}
 use Rattle.saturation.proofs.counts.start.Tie as tie
 
 abbrev Inv-loop : tie.InvT-loop
-Inv-loop kind ends starts entries colors₀ waiting₀ v₀ colors waiting v = (v ≤ length colors₀) × (length colors ≡ length colors₀) × (length waiting ≡ length waiting₀) × Started (neighborsOf kind ends) v colors waiting
+Inv-loop kind n ends starts entries colors₀ waiting₀ v₀ colors waiting v = (v ≤ length colors₀) × (length colors ≡ length colors₀) × (length waiting ≡ length waiting₀) × Started (neighborsOf kind n ends) v colors waiting
 
 abbrev μ-loop : tie.MeasureT-loop
-μ-loop kind ends starts entries colors₀ waiting₀ v₀ colors waiting v = length colors₀ - v
+μ-loop kind n ends starts entries colors₀ waiting₀ v₀ colors waiting v = length colors₀ - v
 
 loop-holds : tie.Need-loop-holds Inv-loop μ-loop
 loop-holds c = (omega arith, refl, refl, started-none _ _ _)
 
 cast-waiting : tie.Need-cast-waiting Inv-loop μ-loop
-cast-waiting c = omega (arith, c .loop-test .taken, c .before .loop .inv .1, items-few _ _ _ (c .before .before .before .before .before .before .before .pre .0 .sized))
+cast-waiting c = omega (arith, c .loop-test .taken, c .before .loop .inv .1, items-few _ _ _ _ (c .before .before .before .before .before .before .before .pre .0 .sized))
 
 cast-waiting-2 : tie.Need-cast-waiting-2 Inv-loop μ-loop
-cast-waiting-2 c = omega (arith, neighbors-few _ _ _ _ _ (c .before .before .before .before .before .before .before .before .pre .0) _ _ (omega (arith, c .before .loop-test .taken, c .before .before .loop .inv .1)) (c .neighbor-count .ensures ∙ neighbors-counted _ _ _ _ _ (c .before .before .before .before .before .before .before .before .pre .0) _ (omega (arith, c .before .loop-test .taken, c .before .before .loop .inv .1))))
+cast-waiting-2 c = omega (arith, neighbors-few _ _ _ _ _ _ (c .before .before .before .before .before .before .before .before .pre .0) _ _ (omega (arith, c .before .loop-test .taken, c .before .before .loop .inv .1)) (c .neighbor-count .ensures ∙ neighbors-counted _ _ _ _ _ _ (c .before .before .before .before .before .before .before .before .pre .0) _ (omega (arith, c .before .loop-test .taken, c .before .before .loop .inv .1))))
 
 loop-less : tie.Need-loop-less Inv-loop μ-loop
 loop-less c = omega (arith, c .before .loop-test .taken, c .before .before .loop .inv .1)
 
 loop-again : tie.Need-loop-again Inv-loop μ-loop
-loop-again c = (omega (arith, c .before .loop-test .taken, c .before .before .loop .inv .1), search needs, search needs, started-more _ _ _ _ _ (c .before .before .loop .inv .3) (omega (arith, c .before .loop-test .taken)) (omega (arith, c .before .loop-test .taken, c .before .before .loop .inv .1, c .before .before .loop .inv .2, c .before .before .before .before .before .before .before .before .pre .1)) (c .neighbor-count .ensures ∙ neighbors-counted _ _ _ _ _ (c .before .before .before .before .before .before .before .before .pre .0) _ (omega (arith, c .before .loop-test .taken, c .before .before .loop .inv .1))))
+loop-again c = (omega (arith, c .before .loop-test .taken, c .before .before .loop .inv .1), search needs, search needs, started-more _ _ _ _ _ (c .before .before .loop .inv .3) (omega (arith, c .before .loop-test .taken)) (omega (arith, c .before .loop-test .taken, c .before .before .loop .inv .1, c .before .before .loop .inv .2, c .before .before .before .before .before .before .before .before .pre .1)) (c .neighbor-count .ensures ∙ neighbors-counted _ _ _ _ _ _ (c .before .before .before .before .before .before .before .before .pre .0) _ (omega (arith, c .before .loop-test .taken, c .before .before .loop .inv .1))))
 
 returns : tie.Need-returns Inv-loop μ-loop
 returns c = started-all _ _ _ _ _ (c .before .loop .inv .3) (c .before .loop .inv .0) (omega (arith, c .loop-test .left, c .before .loop .inv .1))

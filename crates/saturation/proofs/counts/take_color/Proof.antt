@@ -9,7 +9,13 @@ returns : tie.Need-returns
 returns c = (none-taken _ _ _ (c .before .before .before .before .before .before .before .before .pre .1 .0) (c .before .before .before .before .before .before .before .before .pre .1 .1) (c .if1 .taken), c .before .before .before .before .before .before .before .before .pre .0)
 
 returns-2 : tie.Need-returns-2
-returns-2 c = let p = c .before .before .before .before .before .before .before .before .before .before .before .pre in (refl, take-idle _ _ _ _ _ _ _ _ _ (p .0) (p .1 .0) (p .1 .1) (c .before .before .before .if1 .left) (c .if2 .taken))
+returns-2 c = let p = c .before .before .before .before .before .before .before .before .before .before .before .pre in (refl, take-idle _ _ _ _ _ _ _ _ _ _ (p .0) (p .1 .0) (p .1 .1) (c .before .before .before .if1 .left) (c .if2 .taken))
+
+note-color-requires : tie.Need-note-color-requires
+note-color-requires c κs =
+    let at-color = c .before .before .before .before .before .before in
+    let p = at-color .before .before .before .before .before .before .before .before .pre in
+    (p .0, (p .1, at-color .if1 .left))
 
 pub take-color-spec : {M : Type 1} → statement M
 take-color-spec =
@@ -18,4 +24,5 @@ take-color-spec =
     returns
     (λ c. search needs) (λ c. search needs) (λ c. search needs) (λ c. search needs) (λ c. search needs) (λ c. search needs) (λ c. search needs) (λ c. search needs) (λ c. search needs)
     returns-2
-    (λ c κs. search needs) (λ c. search needs) (λ c. search needs) (λ c. search needs) (λ c. search needs))
+    note-color-requires
+    (λ c. search needs) (λ c. search needs) (λ c. search needs) (λ c. search needs))

@@ -10,14 +10,14 @@ use Rattle.saturation.proofs.turns.run.Statement.{statement}
 use Rattle.saturation.proofs.turns.run.Tie as tie
 
 start-requires : tie.Need-start-requires
-start-requires c κs = let p = c .before .before .before .before .before .before .before .before .before .pre in (p .0, omega (arith, items-few _ _ _ (p .0 .sized), p .1 .2))
+start-requires c κs = let p = c .before .before .before .before .before .before .before .before .before .pre in (p .0, omega (arith, items-few _ _ _ _ (p .0 .sized), p .1 .2))
 
 set-presets-requires : tie.Need-set-presets-requires
 set-presets-requires c κs =
     let p = c .before .before .before .before .before .before .before .before .before .before .before .before .before .before .before .before .before .pre in
-    let k = c .before .before .before .before .before .before .before .start .kept in
+    let k = c .before .before .before .before .before .before .before .start .kept .1 in
     let s = c .before .before .before .before .before .before .before .start .ensures in
-    (started-ready _ _ _ _ _ _ _ _ (p .0) (k .1 .1 .1 .1 .0) (p .1 .1) (k .1 .1 .1 .1 .1 .0 ∙ p .1 .2) s, (k .1 .1 .1 .1 .0 ∙ p .1 .0, preset-none _ _ _ _ _ (k .1 .1 .1 .1 .0) s))
+    (started-ready _ _ _ _ _ _ _ _ _ (p .0) (k .1 .1 .1 .1 .0) (p .1 .1) (k .1 .1 .1 .1 .1 .0 ∙ p .1 .2) s, (k .1 .1 .1 .1 .0 ∙ p .1 .0, preset-none _ _ _ _ _ (k .1 .1 .1 .1 .0) s))
 
 returns : tie.Need-returns
 returns c =

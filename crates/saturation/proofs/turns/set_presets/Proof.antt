@@ -11,21 +11,29 @@ use Rattle.saturation.proofs.turns.set_presets.Statement.{statement}
 use Rattle.saturation.proofs.turns.set_presets.Tie as tie
 
 abbrev Inv-loop : tie.InvT-loop
-Inv-loop kind ends starts entries presets colors₀ saturations₀ waiting₀ v₀ colors saturations waiting v = (v ≤ length presets) × (length colors ≡ length colors₀) × (length saturations ≡ length saturations₀) × (length waiting ≡ length waiting₀) × Ready kind ends starts entries colors saturations waiting × Preset presets v colors
+Inv-loop kind n ends starts entries presets colors₀ saturations₀ waiting₀ v₀ colors saturations waiting v = (v ≤ length presets) × (length colors ≡ length colors₀) × (length saturations ≡ length saturations₀) × (length waiting ≡ length waiting₀) × Ready kind n ends starts entries colors saturations waiting × Preset presets v colors
 
 abbrev μ-loop : tie.MeasureT-loop
-μ-loop kind ends starts entries presets colors₀ saturations₀ waiting₀ v₀ colors saturations waiting v = length presets - v
+μ-loop kind n ends starts entries presets colors₀ saturations₀ waiting₀ v₀ colors saturations waiting v = length presets - v
 
 take-color-requires : tie.Need-take-color-requires Inv-loop μ-loop
 take-color-requires c κs =
     let i = c .before .before .before .before .before .loop .inv in
     (i .4, (omega (arith, c .before .before .before .before .loop-test .taken, c .before .before .before .before .before .before .before .before .before .before .before .before .before .pre .1 .0, i .1), i .5 .bare _ (omega arith)))
 
+add-v : tie.Need-add-v Inv-loop μ-loop
+add-v c =
+    let at-test = c .before .before .before .before .before .before .before .before .before .before .before in
+    let i = at-test .before .loop .inv in
+    omega (arith, at-test .loop-test .taken, i .1, at-test .before .before .before .before .before .before .before .before .before .pre .1 .0, items-few _ _ _ _ (i .4 .tabled .sized))
+
 loop-again : tie.Need-loop-again Inv-loop μ-loop
 loop-again c =
-    let i = c .before .before .before .before .before .before .before .before .before .before .before .before .loop .inv in
+    let at-test = c .before .before .before .before .before .before .before .before .before .before .before in
+    let i = at-test .before .loop .inv in
+    let h = at-test .loop-test .taken in
     let e = c .before .before .before .before .before .before .take-color .ensures in
-    (omega (arith, c .before .before .before .before .before .before .before .before .before .before .before .loop-test .taken), search needs, search needs, search needs, e .1, preset-more _ _ _ _ _ (i .5) (omega (arith, c .before .before .before .before .before .before .before .before .before .before .before .loop-test .taken, c .before .before .before .before .before .before .before .before .before .before .before .before .before .before .before .before .before .before .before .before .pre .1 .0, i .1)) (omega (arith, c .before .before .before .before .before .before .before .before .before .before .before .loop-test .taken)) refl (e .0))
+    (omega (arith, h), search needs, search needs, search needs, e .1, preset-more _ _ _ _ _ (i .5) (omega (arith, h, at-test .before .before .before .before .before .before .before .before .before .pre .1 .0, i .1)) (omega (arith, h)) refl (e .0))
 
 returns : tie.Need-returns Inv-loop μ-loop
 returns c =
@@ -39,10 +47,11 @@ set-presets-spec =
     Inv-loop
     μ-loop
     (λ c. search needs)
-    (λ c. omega (arith, c .before .before .before .loop-test .taken, c .before .before .before .before .before .before .before .before .before .before .before .before .pre .1 .0, c .before .before .before .before .loop .inv .1, items-few _ _ _ (c .before .before .before .before .loop .inv .4 .tabled .sized)))
+    (λ c. omega (arith, c .before .before .before .loop-test .taken, c .before .before .before .before .before .before .before .before .before .before .before .before .pre .1 .0, c .before .before .before .before .loop .inv .1, items-few _ _ _ _ (c .before .before .before .before .loop .inv .4 .tabled .sized)))
     (λ c. search needs) (λ c. search needs)
     take-color-requires
-    (λ c. search needs) (λ c. search needs)
+    add-v
+    (λ c. search needs)
     loop-again
     (λ c. search needs) (λ c. search needs) (λ c. search needs)
     returns)

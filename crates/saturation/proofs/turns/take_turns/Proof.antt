@@ -12,10 +12,10 @@ use Rattle.saturation.proofs.turns.take_turns.Statement.{statement}
 use Rattle.saturation.proofs.turns.take_turns.Tie as tie
 
 abbrev Inv-loop : tie.InvT-loop
-Inv-loop kind ends starts entries colors₀ saturations₀ waiting₀ turns₀ colors saturations waiting turns = (turns ≤ length colors₀) × (length colors ≡ length colors₀) × (length saturations ≡ length saturations₀) × (length waiting ≡ length waiting₀) × Ready kind ends starts entries colors saturations waiting × (saturationFrom (neighborsOf kind ends) (length colors₀) (length colors₀ - turns) colors ≡ saturationColors (neighborsOf kind ends) (length colors₀) colors₀)
+Inv-loop kind n ends starts entries colors₀ saturations₀ waiting₀ turns₀ colors saturations waiting turns = (turns ≤ length colors₀) × (length colors ≡ length colors₀) × (length saturations ≡ length saturations₀) × (length waiting ≡ length waiting₀) × Ready kind n ends starts entries colors saturations waiting × (saturationFrom (neighborsOf kind n ends) (length colors₀) (length colors₀ - turns) colors ≡ saturationColors (neighborsOf kind n ends) (length colors₀) colors₀)
 
 abbrev μ-loop : tie.MeasureT-loop
-μ-loop kind ends starts entries colors₀ saturations₀ waiting₀ turns₀ colors saturations waiting turns = length colors₀ - turns
+μ-loop kind n ends starts entries colors₀ saturations₀ waiting₀ turns₀ colors saturations waiting turns = length colors₀ - turns
 
 loop-holds : tie.Need-loop-holds Inv-loop μ-loop
 loop-holds c = (omega arith, refl, refl, refl, c .before .before .before .before .before .before .pre, turns-none _ _ _)

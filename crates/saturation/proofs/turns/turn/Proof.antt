@@ -6,7 +6,7 @@ use Rattle.saturation.proofs.turns.turn.Statement.{statement}
 use Rattle.saturation.proofs.turns.turn.Tie as tie
 
 choose-requires : tie.Need-choose-requires
-choose-requires c κs = let p = c .before .before .before .before .before .before .before .before .before .pre in ((items-few _ _ _ (p .tabled .sized), p .saturations-room, p .waiting-room), p .cleared)
+choose-requires c κs = let p = c .before .before .before .before .before .before .before .before .before .pre in ((items-few _ _ _ _ (p .tabled .sized), p .saturations-room, p .waiting-room), p .cleared)
 
 take-color-requires : tie.Need-take-color-requires
 take-color-requires c κs =
@@ -21,7 +21,7 @@ returns-2 c =
     let p = c .before .before .before .before .before .before .before .before .before .before .before .before .before .before .before .before .before .before .before .before .before .before .before .before .before .pre in
     let l = c .before .before .before .before .before .before .before .before .before .before .before .before .before .before .before .choose .ensures .next _ (c .before .before .before .before .before .before .before .before .before .before .before .before .before .item .given .1) in
     let e = c .before .before .before .before .before .before .take-color .ensures in
-    (turn-chosen _ _ _ _ _ _ _ _ (p .counted) l (free-smallest _ _ _ _ _ (p .tabled) _ _ (l .inside) (l .bare) (c .before .before .before .before .before .before .before .before .before .before .free-color .ensures)) (e .0), e .1)
+    (turn-chosen _ _ _ _ _ _ _ _ (p .counted) l (free-smallest _ _ _ _ _ _ (p .tabled) _ _ (l .inside) (l .bare) (c .before .before .before .before .before .before .before .before .before .before .free-color .ensures)) (e .0), e .1)
 
 pub turn-spec : {M : Type 1} → statement M
 turn-spec =
