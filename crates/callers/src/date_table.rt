@@ -7,9 +7,12 @@ use wulgranite::Coloring;
 use wulgranite::misra_gries_edge_color;
 
 pub fn edges_properly_colored(n: usize, ends: &[u16], colors: &mut [u16]) -> Coloring
-    ensures { λ r. ⌜ reportOfColoring r ≡ misraGries n (now (ends .entry)) (now (colors .entry)) .report ⌝ }
-    ensures { λ _. ⌜ now (colors .exit) ≡ misraGries n (now (ends .entry)) (now (colors .entry)) .colors ⌝ }
-    ensures relied { λ r. ⌜ EdgesProperlyColored n (now (ends .entry)) (now (colors .entry)) (reportOfColoring r) (now (colors .exit)) ⌝ }
+    ensures report { λ r. let ends = now (ends .entry) in let colors = now (colors .entry) in
+        ⌜ reportOfColoring r ≡ misraGries n ends colors .report ⌝ }
+    ensures colors { λ _. let ends = now (ends .entry) in let colors₀ = now (colors .entry) in
+        ⌜ now (colors .exit) ≡ misraGries n ends colors₀ .colors ⌝ }
+    ensures relied { λ r. let ends = now (ends .entry) in let colors₀ = now (colors .entry) in
+        ⌜ EdgesProperlyColored n ends colors₀ (reportOfColoring r) (now (colors .exit)) ⌝ }
 {
     misra_gries_edge_color(n, ends, colors)
 }

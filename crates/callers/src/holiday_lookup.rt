@@ -18,9 +18,12 @@ pub fn no_preset_node_moved(
     strategy: ColoringStrategy,
     colors: &mut [u16],
 ) -> Coloring
-    ensures { λ r. ⌜ reportOfColoring r ≡ greedyNodes (ruleOf strategy) n (now (ends .entry)) (now (presets .entry)) (now (colors .entry)) .report ⌝ }
-    ensures { λ _. ⌜ now (colors .exit) ≡ greedyNodes (ruleOf strategy) n (now (ends .entry)) (now (presets .entry)) (now (colors .entry)) .colors ⌝ }
-    ensures relied { λ r. ⌜ NoPresetMoved n (now (ends .entry)) n (now (presets .entry)) (now (colors .entry)) (reportOfColoring r) (now (colors .exit)) ⌝ }
+    ensures report { λ r. let ends = now (ends .entry) in let presets = now (presets .entry) in let colors = now (colors .entry) in
+        ⌜ reportOfColoring r ≡ greedyNodes (ruleOf strategy) n ends presets colors .report ⌝ }
+    ensures colors { λ _. let ends = now (ends .entry) in let presets = now (presets .entry) in let colors₀ = now (colors .entry) in
+        ⌜ now (colors .exit) ≡ greedyNodes (ruleOf strategy) n ends presets colors₀ .colors ⌝ }
+    ensures relied { λ r. let ends = now (ends .entry) in let presets = now (presets .entry) in let colors₀ = now (colors .entry) in
+        ⌜ NoPresetMoved n ends n presets colors₀ (reportOfColoring r) (now (colors .exit)) ⌝ }
 {
     greedy_node_color_with_coloring_strategy(n, ends, presets, strategy, colors)
 }
@@ -31,9 +34,12 @@ pub fn no_preset_node_moved_by_degree(
     presets: &[u16],
     colors: &mut [u16],
 ) -> Coloring
-    ensures { λ r. ⌜ reportOfColoring r ≡ greedyNodes degreeColors n (now (ends .entry)) (now (presets .entry)) (now (colors .entry)) .report ⌝ }
-    ensures { λ _. ⌜ now (colors .exit) ≡ greedyNodes degreeColors n (now (ends .entry)) (now (presets .entry)) (now (colors .entry)) .colors ⌝ }
-    ensures relied { λ r. ⌜ NoPresetMoved n (now (ends .entry)) n (now (presets .entry)) (now (colors .entry)) (reportOfColoring r) (now (colors .exit)) ⌝ }
+    ensures report { λ r. let ends = now (ends .entry) in let presets = now (presets .entry) in let colors = now (colors .entry) in
+        ⌜ reportOfColoring r ≡ greedyNodes degreeColors n ends presets colors .report ⌝ }
+    ensures colors { λ _. let ends = now (ends .entry) in let presets = now (presets .entry) in let colors₀ = now (colors .entry) in
+        ⌜ now (colors .exit) ≡ greedyNodes degreeColors n ends presets colors₀ .colors ⌝ }
+    ensures relied { λ r. let ends = now (ends .entry) in let presets = now (presets .entry) in let colors₀ = now (colors .entry) in
+        ⌜ NoPresetMoved n ends n presets colors₀ (reportOfColoring r) (now (colors .exit)) ⌝ }
 {
     greedy_node_color_with_preset_colors(n, ends, presets, colors)
 }
@@ -45,9 +51,12 @@ pub fn no_preset_edge_moved(
     strategy: ColoringStrategy,
     colors: &mut [u16],
 ) -> Coloring
-    ensures { λ r. ⌜ reportOfColoring r ≡ greedyEdges (ruleOf strategy) n (now (ends .entry)) (now (presets .entry)) (now (colors .entry)) .report ⌝ }
-    ensures { λ _. ⌜ now (colors .exit) ≡ greedyEdges (ruleOf strategy) n (now (ends .entry)) (now (presets .entry)) (now (colors .entry)) .colors ⌝ }
-    ensures relied { λ r. ⌜ NoPresetMoved n (now (ends .entry)) (edgeCount (now (ends .entry))) (now (presets .entry)) (now (colors .entry)) (reportOfColoring r) (now (colors .exit)) ⌝ }
+    ensures report { λ r. let ends = now (ends .entry) in let presets = now (presets .entry) in let colors = now (colors .entry) in
+        ⌜ reportOfColoring r ≡ greedyEdges (ruleOf strategy) n ends presets colors .report ⌝ }
+    ensures colors { λ _. let ends = now (ends .entry) in let presets = now (presets .entry) in let colors₀ = now (colors .entry) in
+        ⌜ now (colors .exit) ≡ greedyEdges (ruleOf strategy) n ends presets colors₀ .colors ⌝ }
+    ensures relied { λ r. let ends = now (ends .entry) in let presets = now (presets .entry) in let colors₀ = now (colors .entry) in
+        ⌜ NoPresetMoved n ends (edgeCount ends) presets colors₀ (reportOfColoring r) (now (colors .exit)) ⌝ }
 {
     greedy_edge_color_with_coloring_strategy(n, ends, presets, strategy, colors)
 }

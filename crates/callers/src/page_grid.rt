@@ -14,9 +14,12 @@ use wulgranite::greedy_node_color;
 use wulgranite::greedy_node_color_with_coloring_strategy;
 
 pub fn adjacent_nodes_differ(n: usize, ends: &[u16], colors: &mut [u16]) -> Coloring
-    ensures { λ r. ⌜ reportOfColoring r ≡ greedyNodesPlain degreeColors n (now (ends .entry)) (now (colors .entry)) .report ⌝ }
-    ensures { λ _. ⌜ now (colors .exit) ≡ greedyNodesPlain degreeColors n (now (ends .entry)) (now (colors .entry)) .colors ⌝ }
-    ensures relied { λ r. ⌜ AdjacentNodesDiffer n (now (ends .entry)) [] (Lent n (now (colors .entry))) (reportOfColoring r) (now (colors .exit)) ⌝ }
+    ensures report { λ r. let ends = now (ends .entry) in let colors = now (colors .entry) in
+        ⌜ reportOfColoring r ≡ greedyNodesPlain degreeColors n ends colors .report ⌝ }
+    ensures colors { λ _. let ends = now (ends .entry) in let colors₀ = now (colors .entry) in
+        ⌜ now (colors .exit) ≡ greedyNodesPlain degreeColors n ends colors₀ .colors ⌝ }
+    ensures relied { λ r. let ends = now (ends .entry) in let colors₀ = now (colors .entry) in
+        ⌜ AdjacentNodesDiffer n ends [] (Lent n colors₀) (reportOfColoring r) (now (colors .exit)) ⌝ }
 {
     greedy_node_color(n, ends, colors)
 }
@@ -28,17 +31,23 @@ pub fn adjacent_nodes_differ_unless_preset(
     strategy: ColoringStrategy,
     colors: &mut [u16],
 ) -> Coloring
-    ensures { λ r. ⌜ reportOfColoring r ≡ greedyNodes (ruleOf strategy) n (now (ends .entry)) (now (presets .entry)) (now (colors .entry)) .report ⌝ }
-    ensures { λ _. ⌜ now (colors .exit) ≡ greedyNodes (ruleOf strategy) n (now (ends .entry)) (now (presets .entry)) (now (colors .entry)) .colors ⌝ }
-    ensures relied { λ r. ⌜ AdjacentNodesDiffer n (now (ends .entry)) (now (presets .entry)) (LentBoth n (now (presets .entry)) (now (colors .entry))) (reportOfColoring r) (now (colors .exit)) ⌝ }
+    ensures report { λ r. let ends = now (ends .entry) in let presets = now (presets .entry) in let colors = now (colors .entry) in
+        ⌜ reportOfColoring r ≡ greedyNodes (ruleOf strategy) n ends presets colors .report ⌝ }
+    ensures colors { λ _. let ends = now (ends .entry) in let presets = now (presets .entry) in let colors₀ = now (colors .entry) in
+        ⌜ now (colors .exit) ≡ greedyNodes (ruleOf strategy) n ends presets colors₀ .colors ⌝ }
+    ensures relied { λ r. let ends = now (ends .entry) in let presets = now (presets .entry) in let colors₀ = now (colors .entry) in
+        ⌜ AdjacentNodesDiffer n ends presets (LentBoth n presets colors₀) (reportOfColoring r) (now (colors .exit)) ⌝ }
 {
     greedy_node_color_with_coloring_strategy(n, ends, presets, strategy, colors)
 }
 
 pub fn adjacent_edges_differ(n: usize, ends: &[u16], colors: &mut [u16]) -> Coloring
-    ensures { λ r. ⌜ reportOfColoring r ≡ greedyEdgesPlain degreeColors n (now (ends .entry)) (now (colors .entry)) .report ⌝ }
-    ensures { λ _. ⌜ now (colors .exit) ≡ greedyEdgesPlain degreeColors n (now (ends .entry)) (now (colors .entry)) .colors ⌝ }
-    ensures relied { λ r. ⌜ AdjacentEdgesDiffer n (now (ends .entry)) [] (Lent (edgeCount (now (ends .entry))) (now (colors .entry))) (reportOfColoring r) (now (colors .exit)) ⌝ }
+    ensures report { λ r. let ends = now (ends .entry) in let colors = now (colors .entry) in
+        ⌜ reportOfColoring r ≡ greedyEdgesPlain degreeColors n ends colors .report ⌝ }
+    ensures colors { λ _. let ends = now (ends .entry) in let colors₀ = now (colors .entry) in
+        ⌜ now (colors .exit) ≡ greedyEdgesPlain degreeColors n ends colors₀ .colors ⌝ }
+    ensures relied { λ r. let ends = now (ends .entry) in let colors₀ = now (colors .entry) in
+        ⌜ AdjacentEdgesDiffer n ends [] (Lent (edgeCount ends) colors₀) (reportOfColoring r) (now (colors .exit)) ⌝ }
 {
     greedy_edge_color(n, ends, colors)
 }
@@ -50,9 +59,12 @@ pub fn adjacent_edges_differ_unless_preset(
     strategy: ColoringStrategy,
     colors: &mut [u16],
 ) -> Coloring
-    ensures { λ r. ⌜ reportOfColoring r ≡ greedyEdges (ruleOf strategy) n (now (ends .entry)) (now (presets .entry)) (now (colors .entry)) .report ⌝ }
-    ensures { λ _. ⌜ now (colors .exit) ≡ greedyEdges (ruleOf strategy) n (now (ends .entry)) (now (presets .entry)) (now (colors .entry)) .colors ⌝ }
-    ensures relied { λ r. ⌜ AdjacentEdgesDiffer n (now (ends .entry)) (now (presets .entry)) (LentBoth (edgeCount (now (ends .entry))) (now (presets .entry)) (now (colors .entry))) (reportOfColoring r) (now (colors .exit)) ⌝ }
+    ensures report { λ r. let ends = now (ends .entry) in let presets = now (presets .entry) in let colors = now (colors .entry) in
+        ⌜ reportOfColoring r ≡ greedyEdges (ruleOf strategy) n ends presets colors .report ⌝ }
+    ensures colors { λ _. let ends = now (ends .entry) in let presets = now (presets .entry) in let colors₀ = now (colors .entry) in
+        ⌜ now (colors .exit) ≡ greedyEdges (ruleOf strategy) n ends presets colors₀ .colors ⌝ }
+    ensures relied { λ r. let ends = now (ends .entry) in let presets = now (presets .entry) in let colors₀ = now (colors .entry) in
+        ⌜ AdjacentEdgesDiffer n ends presets (LentBoth (edgeCount ends) presets colors₀) (reportOfColoring r) (now (colors .exit)) ⌝ }
 {
     greedy_edge_color_with_coloring_strategy(n, ends, presets, strategy, colors)
 }

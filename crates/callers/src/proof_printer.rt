@@ -7,9 +7,12 @@ use wulgranite::Coloring;
 use wulgranite::two_color;
 
 pub fn bipartition_or_none(n: usize, ends: &[u16], colors: &mut [u8]) -> Coloring
-    ensures { λ r. ⌜ reportOfColoring r ≡ twoColor n (now (ends .entry)) (now (colors .entry)) .report ⌝ }
-    ensures { λ _. ⌜ now (colors .exit) ≡ twoColor n (now (ends .entry)) (now (colors .entry)) .colors ⌝ }
-    ensures relied { λ r. ⌜ BipartitionOrNone n (now (ends .entry)) (now (colors .entry)) (reportOfColoring r) (now (colors .exit)) ⌝ }
+    ensures report { λ r. let ends = now (ends .entry) in let colors = now (colors .entry) in
+        ⌜ reportOfColoring r ≡ twoColor n ends colors .report ⌝ }
+    ensures colors { λ _. let ends = now (ends .entry) in let colors₀ = now (colors .entry) in
+        ⌜ now (colors .exit) ≡ twoColor n ends colors₀ .colors ⌝ }
+    ensures relied { λ r. let ends = now (ends .entry) in let colors₀ = now (colors .entry) in
+        ⌜ BipartitionOrNone n ends colors₀ (reportOfColoring r) (now (colors .exit)) ⌝ }
 {
     two_color(n, ends, colors)
 }

@@ -24,8 +24,8 @@ use wulgranite::LineList;
 mod strategy;
 
 fn answer_coloring(coloring: Coloring, days: &mut usize) -> u32
-    ensures { λ r. ⌜ r ≡ code (reportOfColoring coloring) ⌝ }
-    ensures { λ _. ⌜ now (days .exit) ≡ valueOr (now (days .entry)) (reportOfColoring coloring) ⌝ }
+    ensures answer { λ r. ⌜ r ≡ code (reportOfColoring coloring) ⌝ }
+    ensures days { λ _. ⌜ now (days .exit) ≡ valueOr (now (days .entry)) (reportOfColoring coloring) ⌝ }
 {
     match coloring {
         Coloring::Accepted { days: counted } => {
@@ -37,8 +37,8 @@ fn answer_coloring(coloring: Coloring, days: &mut usize) -> u32
 }
 
 fn answer_incidence(incidence: IncidenceAnswer, total: &mut usize) -> u32
-    ensures { λ r. ⌜ r ≡ code (reportOfIncidence incidence) ⌝ }
-    ensures { λ _. ⌜ now (total .exit) ≡ valueOr (now (total .entry)) (reportOfIncidence incidence) ⌝ }
+    ensures answer { λ r. ⌜ r ≡ code (reportOfIncidence incidence) ⌝ }
+    ensures total { λ _. ⌜ now (total .exit) ≡ valueOr (now (total .entry)) (reportOfIncidence incidence) ⌝ }
 {
     match incidence {
         IncidenceAnswer::Accepted { total: counted } => {
@@ -50,8 +50,8 @@ fn answer_incidence(incidence: IncidenceAnswer, total: &mut usize) -> u32
 }
 
 fn answer_line_list(list: LineList, pairs: &mut usize) -> u32
-    ensures { λ r. ⌜ r ≡ code (reportOfLineList list) ⌝ }
-    ensures { λ _. ⌜ now (pairs .exit) ≡ valueOr (now (pairs .entry)) (reportOfLineList list) ⌝ }
+    ensures answer { λ r. ⌜ r ≡ code (reportOfLineList list) ⌝ }
+    ensures pairs { λ _. ⌜ now (pairs .exit) ≡ valueOr (now (pairs .entry)) (reportOfLineList list) ⌝ }
 {
     match list {
         LineList::Accepted { pairs: counted } => {
@@ -63,10 +63,10 @@ fn answer_line_list(list: LineList, pairs: &mut usize) -> u32
 }
 
 fn answer_file(file: FileAnswer, nodes: &mut usize, edges: &mut usize, tags: &mut usize) -> u32
-    ensures { λ r. ⌜ r ≡ code (reportOfFile file) ⌝ }
-    ensures { λ _. ⌜ now (nodes .exit) ≡ partOr nodesRead (now (nodes .entry)) (reportOfFile file) ⌝ }
-    ensures { λ _. ⌜ now (edges .exit) ≡ partOr edgesRead (now (edges .entry)) (reportOfFile file) ⌝ }
-    ensures { λ _. ⌜ now (tags .exit) ≡ partOr tagsRead (now (tags .entry)) (reportOfFile file) ⌝ }
+    ensures answer { λ r. ⌜ r ≡ code (reportOfFile file) ⌝ }
+    ensures nodes { λ _. ⌜ now (nodes .exit) ≡ partOr nodesRead (now (nodes .entry)) (reportOfFile file) ⌝ }
+    ensures edges { λ _. ⌜ now (edges .exit) ≡ partOr edgesRead (now (edges .entry)) (reportOfFile file) ⌝ }
+    ensures tags { λ _. ⌜ now (tags .exit) ≡ partOr tagsRead (now (tags .entry)) (reportOfFile file) ⌝ }
 {
     match file {
         FileAnswer::Accepted {
@@ -91,19 +91,26 @@ pub extern "C" fn wg_incidence(
     entries: &mut [u16],
     total: &mut usize,
 ) -> u32
-    ensures { λ r. ⌜ r ≡ code (incidenceOf n (now (ends .entry)) (now (starts .entry)) (now (entries .entry)) .report) ⌝ }
-    ensures { λ _. ⌜ now (starts .exit) ≡ incidenceOf n (now (ends .entry)) (now (starts .entry)) (now (entries .entry)) .starts ⌝ }
-    ensures { λ _. ⌜ now (entries .exit) ≡ incidenceOf n (now (ends .entry)) (now (starts .entry)) (now (entries .entry)) .entries ⌝ }
-    ensures { λ _. ⌜ now (total .exit) ≡ valueOr (now (total .entry)) (incidenceOf n (now (ends .entry)) (now (starts .entry)) (now (entries .entry)) .report) ⌝ }
+    ensures answer { λ r. let ends = now (ends .entry) in let starts = now (starts .entry) in let entries = now (entries .entry) in
+        ⌜ r ≡ code (incidenceOf n ends starts entries .report) ⌝ }
+    ensures starts { λ _. let ends = now (ends .entry) in let starts₀ = now (starts .entry) in let entries = now (entries .entry) in
+        ⌜ now (starts .exit) ≡ incidenceOf n ends starts₀ entries .starts ⌝ }
+    ensures entries { λ _. let ends = now (ends .entry) in let starts = now (starts .entry) in let entries₀ = now (entries .entry) in
+        ⌜ now (entries .exit) ≡ incidenceOf n ends starts entries₀ .entries ⌝ }
+    ensures total { λ _. let total₀ = now (total .entry) in let ends = now (ends .entry) in let starts = now (starts .entry) in
+        let entries = now (entries .entry) in
+        ⌜ now (total .exit) ≡ valueOr total₀ (incidenceOf n ends starts entries .report) ⌝ }
 {
     answer_incidence(wulgranite::incidence(n, ends, starts, entries), total)
 }
 
 #[no_mangle]
 pub extern "C" fn wg_two_color(n: usize, ends: &[u16], colors: &mut [u8], days: &mut usize) -> u32
-    ensures { λ r. ⌜ r ≡ code (twoColor n (now (ends .entry)) (now (colors .entry)) .report) ⌝ }
-    ensures { λ _. ⌜ now (colors .exit) ≡ twoColor n (now (ends .entry)) (now (colors .entry)) .colors ⌝ }
-    ensures { λ _. ⌜ now (days .exit) ≡ valueOr (now (days .entry)) (twoColor n (now (ends .entry)) (now (colors .entry)) .report) ⌝ }
+    ensures answer { λ r. let ends = now (ends .entry) in let colors = now (colors .entry) in ⌜ r ≡ code (twoColor n ends colors .report) ⌝ }
+    ensures colors { λ _. let ends = now (ends .entry) in let colors₀ = now (colors .entry) in
+        ⌜ now (colors .exit) ≡ twoColor n ends colors₀ .colors ⌝ }
+    ensures days { λ _. let days₀ = now (days .entry) in let ends = now (ends .entry) in let colors = now (colors .entry) in
+        ⌜ now (days .exit) ≡ valueOr days₀ (twoColor n ends colors .report) ⌝ }
 {
     answer_coloring(wulgranite::two_color(n, ends, colors), days)
 }
@@ -115,9 +122,12 @@ pub extern "C" fn wg_greedy_node_color(
     colors: &mut [u16],
     days: &mut usize,
 ) -> u32
-    ensures { λ r. ⌜ r ≡ code (greedyNodesPlain degreeColors n (now (ends .entry)) (now (colors .entry)) .report) ⌝ }
-    ensures { λ _. ⌜ now (colors .exit) ≡ greedyNodesPlain degreeColors n (now (ends .entry)) (now (colors .entry)) .colors ⌝ }
-    ensures { λ _. ⌜ now (days .exit) ≡ valueOr (now (days .entry)) (greedyNodesPlain degreeColors n (now (ends .entry)) (now (colors .entry)) .report) ⌝ }
+    ensures answer { λ r. let ends = now (ends .entry) in let colors = now (colors .entry) in
+        ⌜ r ≡ code (greedyNodesPlain degreeColors n ends colors .report) ⌝ }
+    ensures colors { λ _. let ends = now (ends .entry) in let colors₀ = now (colors .entry) in
+        ⌜ now (colors .exit) ≡ greedyNodesPlain degreeColors n ends colors₀ .colors ⌝ }
+    ensures days { λ _. let days₀ = now (days .entry) in let ends = now (ends .entry) in let colors = now (colors .entry) in
+        ⌜ now (days .exit) ≡ valueOr days₀ (greedyNodesPlain degreeColors n ends colors .report) ⌝ }
 {
     answer_coloring(wulgranite::greedy_node_color(n, ends, colors), days)
 }
@@ -130,9 +140,13 @@ pub extern "C" fn wg_greedy_node_color_with_preset_colors(
     colors: &mut [u16],
     days: &mut usize,
 ) -> u32
-    ensures { λ r. ⌜ r ≡ code (greedyNodes degreeColors n (now (ends .entry)) (now (presets .entry)) (now (colors .entry)) .report) ⌝ }
-    ensures { λ _. ⌜ now (colors .exit) ≡ greedyNodes degreeColors n (now (ends .entry)) (now (presets .entry)) (now (colors .entry)) .colors ⌝ }
-    ensures { λ _. ⌜ now (days .exit) ≡ valueOr (now (days .entry)) (greedyNodes degreeColors n (now (ends .entry)) (now (presets .entry)) (now (colors .entry)) .report) ⌝ }
+    ensures answer { λ r. let ends = now (ends .entry) in let presets = now (presets .entry) in let colors = now (colors .entry) in
+        ⌜ r ≡ code (greedyNodes degreeColors n ends presets colors .report) ⌝ }
+    ensures colors { λ _. let ends = now (ends .entry) in let presets = now (presets .entry) in let colors₀ = now (colors .entry) in
+        ⌜ now (colors .exit) ≡ greedyNodes degreeColors n ends presets colors₀ .colors ⌝ }
+    ensures days { λ _. let days₀ = now (days .entry) in let ends = now (ends .entry) in let presets = now (presets .entry) in
+        let colors = now (colors .entry) in
+        ⌜ now (days .exit) ≡ valueOr days₀ (greedyNodes degreeColors n ends presets colors .report) ⌝ }
 {
     answer_coloring(
         wulgranite::greedy_node_color_with_preset_colors(n, ends, presets, colors),
@@ -149,9 +163,13 @@ pub extern "C" fn wg_greedy_node_color_with_coloring_strategy(
     colors: &mut [u16],
     days: &mut usize,
 ) -> u32
-    ensures { λ r. ⌜ r ≡ code (nodesByNumber strategy n (now (ends .entry)) (now (presets .entry)) (now (colors .entry)) .report) ⌝ }
-    ensures { λ _. ⌜ now (colors .exit) ≡ nodesByNumber strategy n (now (ends .entry)) (now (presets .entry)) (now (colors .entry)) .colors ⌝ }
-    ensures { λ _. ⌜ now (days .exit) ≡ valueOr (now (days .entry)) (nodesByNumber strategy n (now (ends .entry)) (now (presets .entry)) (now (colors .entry)) .report) ⌝ }
+    ensures answer { λ r. let ends = now (ends .entry) in let presets = now (presets .entry) in let colors = now (colors .entry) in
+        ⌜ r ≡ code (nodesByNumber strategy n ends presets colors .report) ⌝ }
+    ensures colors { λ _. let ends = now (ends .entry) in let presets = now (presets .entry) in let colors₀ = now (colors .entry) in
+        ⌜ now (colors .exit) ≡ nodesByNumber strategy n ends presets colors₀ .colors ⌝ }
+    ensures days { λ _. let days₀ = now (days .entry) in let ends = now (ends .entry) in let presets = now (presets .entry) in
+        let colors = now (colors .entry) in
+        ⌜ now (days .exit) ≡ valueOr days₀ (nodesByNumber strategy n ends presets colors .report) ⌝ }
 {
     match strategy_of(strategy) {
         StrategyNumber::Known(known) => answer_coloring(
@@ -172,9 +190,12 @@ pub extern "C" fn wg_greedy_edge_color(
     colors: &mut [u16],
     days: &mut usize,
 ) -> u32
-    ensures { λ r. ⌜ r ≡ code (greedyEdgesPlain degreeColors n (now (ends .entry)) (now (colors .entry)) .report) ⌝ }
-    ensures { λ _. ⌜ now (colors .exit) ≡ greedyEdgesPlain degreeColors n (now (ends .entry)) (now (colors .entry)) .colors ⌝ }
-    ensures { λ _. ⌜ now (days .exit) ≡ valueOr (now (days .entry)) (greedyEdgesPlain degreeColors n (now (ends .entry)) (now (colors .entry)) .report) ⌝ }
+    ensures answer { λ r. let ends = now (ends .entry) in let colors = now (colors .entry) in
+        ⌜ r ≡ code (greedyEdgesPlain degreeColors n ends colors .report) ⌝ }
+    ensures colors { λ _. let ends = now (ends .entry) in let colors₀ = now (colors .entry) in
+        ⌜ now (colors .exit) ≡ greedyEdgesPlain degreeColors n ends colors₀ .colors ⌝ }
+    ensures days { λ _. let days₀ = now (days .entry) in let ends = now (ends .entry) in let colors = now (colors .entry) in
+        ⌜ now (days .exit) ≡ valueOr days₀ (greedyEdgesPlain degreeColors n ends colors .report) ⌝ }
 {
     answer_coloring(wulgranite::greedy_edge_color(n, ends, colors), days)
 }
@@ -188,9 +209,13 @@ pub extern "C" fn wg_greedy_edge_color_with_coloring_strategy(
     colors: &mut [u16],
     days: &mut usize,
 ) -> u32
-    ensures { λ r. ⌜ r ≡ code (edgesByNumber strategy n (now (ends .entry)) (now (presets .entry)) (now (colors .entry)) .report) ⌝ }
-    ensures { λ _. ⌜ now (colors .exit) ≡ edgesByNumber strategy n (now (ends .entry)) (now (presets .entry)) (now (colors .entry)) .colors ⌝ }
-    ensures { λ _. ⌜ now (days .exit) ≡ valueOr (now (days .entry)) (edgesByNumber strategy n (now (ends .entry)) (now (presets .entry)) (now (colors .entry)) .report) ⌝ }
+    ensures answer { λ r. let ends = now (ends .entry) in let presets = now (presets .entry) in let colors = now (colors .entry) in
+        ⌜ r ≡ code (edgesByNumber strategy n ends presets colors .report) ⌝ }
+    ensures colors { λ _. let ends = now (ends .entry) in let presets = now (presets .entry) in let colors₀ = now (colors .entry) in
+        ⌜ now (colors .exit) ≡ edgesByNumber strategy n ends presets colors₀ .colors ⌝ }
+    ensures days { λ _. let days₀ = now (days .entry) in let ends = now (ends .entry) in let presets = now (presets .entry) in
+        let colors = now (colors .entry) in
+        ⌜ now (days .exit) ≡ valueOr days₀ (edgesByNumber strategy n ends presets colors .report) ⌝ }
 {
     match strategy_of(strategy) {
         StrategyNumber::Known(known) => answer_coloring(
@@ -206,9 +231,10 @@ pub extern "C" fn wg_greedy_edge_color_with_coloring_strategy(
 
 #[no_mangle]
 pub extern "C" fn wg_line_graph(n: usize, ends: &[u16], list: &mut [u16], pairs: &mut usize) -> u32
-    ensures { λ r. ⌜ r ≡ code (lineGraph n (now (ends .entry)) (now (list .entry)) .report) ⌝ }
-    ensures { λ _. ⌜ now (list .exit) ≡ lineGraph n (now (ends .entry)) (now (list .entry)) .list ⌝ }
-    ensures { λ _. ⌜ now (pairs .exit) ≡ valueOr (now (pairs .entry)) (lineGraph n (now (ends .entry)) (now (list .entry)) .report) ⌝ }
+    ensures answer { λ r. let ends = now (ends .entry) in let list = now (list .entry) in ⌜ r ≡ code (lineGraph n ends list .report) ⌝ }
+    ensures list { λ _. let ends = now (ends .entry) in let list₀ = now (list .entry) in ⌜ now (list .exit) ≡ lineGraph n ends list₀ .list ⌝ }
+    ensures pairs { λ _. let pairs₀ = now (pairs .entry) in let ends = now (ends .entry) in let list = now (list .entry) in
+        ⌜ now (pairs .exit) ≡ valueOr pairs₀ (lineGraph n ends list .report) ⌝ }
 {
     answer_line_list(wulgranite::line_graph(n, ends, list), pairs)
 }
@@ -220,9 +246,11 @@ pub extern "C" fn wg_misra_gries_edge_color(
     colors: &mut [u16],
     days: &mut usize,
 ) -> u32
-    ensures { λ r. ⌜ r ≡ code (misraGries n (now (ends .entry)) (now (colors .entry)) .report) ⌝ }
-    ensures { λ _. ⌜ now (colors .exit) ≡ misraGries n (now (ends .entry)) (now (colors .entry)) .colors ⌝ }
-    ensures { λ _. ⌜ now (days .exit) ≡ valueOr (now (days .entry)) (misraGries n (now (ends .entry)) (now (colors .entry)) .report) ⌝ }
+    ensures answer { λ r. let ends = now (ends .entry) in let colors = now (colors .entry) in ⌜ r ≡ code (misraGries n ends colors .report) ⌝ }
+    ensures colors { λ _. let ends = now (ends .entry) in let colors₀ = now (colors .entry) in
+        ⌜ now (colors .exit) ≡ misraGries n ends colors₀ .colors ⌝ }
+    ensures days { λ _. let days₀ = now (days .entry) in let ends = now (ends .entry) in let colors = now (colors .entry) in
+        ⌜ now (days .exit) ≡ valueOr days₀ (misraGries n ends colors .report) ⌝ }
 {
     answer_coloring(wulgranite::misra_gries_edge_color(n, ends, colors), days)
 }
@@ -235,11 +263,14 @@ pub extern "C" fn wg_read_graph_file(
     edges: &mut usize,
     tags: &mut usize,
 ) -> u32
-    ensures { λ r. ⌜ r ≡ code (readFile (now (bytes .entry)) (now (ends .entry)) .report) ⌝ }
-    ensures { λ _. ⌜ now (ends .exit) ≡ readFile (now (bytes .entry)) (now (ends .entry)) .ends ⌝ }
-    ensures { λ _. ⌜ now (nodes .exit) ≡ partOr nodesRead (now (nodes .entry)) (readFile (now (bytes .entry)) (now (ends .entry)) .report) ⌝ }
-    ensures { λ _. ⌜ now (edges .exit) ≡ partOr edgesRead (now (edges .entry)) (readFile (now (bytes .entry)) (now (ends .entry)) .report) ⌝ }
-    ensures { λ _. ⌜ now (tags .exit) ≡ partOr tagsRead (now (tags .entry)) (readFile (now (bytes .entry)) (now (ends .entry)) .report) ⌝ }
+    ensures answer { λ r. let bytes = now (bytes .entry) in let ends = now (ends .entry) in ⌜ r ≡ code (readFile bytes ends .report) ⌝ }
+    ensures ends { λ _. let bytes = now (bytes .entry) in let ends₀ = now (ends .entry) in ⌜ now (ends .exit) ≡ readFile bytes ends₀ .ends ⌝ }
+    ensures nodes { λ _. let nodes₀ = now (nodes .entry) in let bytes = now (bytes .entry) in let ends = now (ends .entry) in
+        ⌜ now (nodes .exit) ≡ partOr nodesRead nodes₀ (readFile bytes ends .report) ⌝ }
+    ensures edges { λ _. let edges₀ = now (edges .entry) in let bytes = now (bytes .entry) in let ends = now (ends .entry) in
+        ⌜ now (edges .exit) ≡ partOr edgesRead edges₀ (readFile bytes ends .report) ⌝ }
+    ensures tags { λ _. let tags₀ = now (tags .entry) in let bytes = now (bytes .entry) in let ends = now (ends .entry) in
+        ⌜ now (tags .exit) ≡ partOr tagsRead tags₀ (readFile bytes ends .report) ⌝ }
 {
     answer_file(wulgranite::read_graph_file(bytes, ends), nodes, edges, tags)
 }

@@ -12,7 +12,7 @@ pub enum StrategyNumber {
 }
 
 pub(crate) fn strategy_of(number: u8) -> StrategyNumber
-    ensures { λ r. ⌜ strategyNamed r ≡ strategyOf number ⌝ }
+    ensures answer { λ r. ⌜ strategyNamed r ≡ strategyOf number ⌝ }
 {
     match number {
         0 => StrategyNumber::Known(ColoringStrategy::Degree),
@@ -24,7 +24,7 @@ pub(crate) fn strategy_of(number: u8) -> StrategyNumber
 
 // The answer where no strategy has the number: that of the checks comes first.
 pub(crate) fn unknown_strategy(checked: Checked) -> u32
-    ensures { λ r. ⌜ r ≡ codeOfUnknown (reportOfChecked checked) ⌝ }
+    ensures answer { λ r. ⌜ r ≡ codeOfUnknown (reportOfChecked checked) ⌝ }
 {
     match checked {
         Checked::Accepted(_) => 255,

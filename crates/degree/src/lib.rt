@@ -36,7 +36,7 @@ fn note_degrees(
 )
     requires { ⌜ Tabled kind n (now ends) (now starts) (now entries) items ⌝ }
     requires { ⌜ items ≤ length (now degrees) ⌝ }
-    ensures { λ _. ⌜ ((v : ℕ) → v < items → getD (now (degrees .exit)) v 0 ≡ length (neighborsOf kind n (now (ends .entry)) v)) ⌝ }
+    ensures degrees { λ _. ⌜ ((v : ℕ) → v < items → getD (now (degrees .exit)) v 0 ≡ length (neighborsOf kind n (now (ends .entry)) v)) ⌝ }
 {
     let mut v = 0;
     while v < items {
@@ -57,7 +57,8 @@ fn color_each(
 )
     requires { ⌜ Tabled kind n (now ends) (now starts) (now entries) (length (now colors)) ⌝ }
     requires { ⌜ Waiting (now order) (now colors) ⌝ }
-    ensures { λ _. ⌜ now (colors .exit) ≡ colorInOrder (neighborsOf kind n (now (ends .entry))) (now (order .entry)) (now (colors .entry)) ⌝ }
+    ensures colors { λ _. let ends = now (ends .entry) in let order = now (order .entry) in let colors₀ = now (colors .entry) in
+        ⌜ now (colors .exit) ≡ colorInOrder (neighborsOf kind n ends) order colors₀ ⌝ }
 {
     let mut i = 0;
     while i < order.len() {
@@ -80,7 +81,8 @@ fn color_in_order(
 )
     requires { ⌜ Tabled kind n (now ends) (now starts) (now entries) (length (now colors)) ⌝ }
     requires { ⌜ Waiting (now order) (now colors) ⌝ }
-    ensures { λ _. ⌜ now (colors .exit) ≡ colorInOrder (neighborsOf kind n (now (ends .entry))) (now (order .entry)) (now (colors .entry)) ⌝ }
+    ensures colors { λ _. let ends = now (ends .entry) in let order = now (order .entry) in let colors₀ = now (colors .entry) in
+        ⌜ now (colors .exit) ≡ colorInOrder (neighborsOf kind n ends) order colors₀ ⌝ }
 {
     match kind {
         Kind::Nodes => {
@@ -106,8 +108,9 @@ fn color_checked(
     requires { ⌜ Passed n (now ends) ⌝ }
     requires { ⌜ (length (now presets) ≡ itemsOf kind n (now ends)) × (length (now colors) ≡ itemsOf kind n (now ends)) ⌝ }
     requires { ⌜ Room kind n (now ends) (now degrees) (now counts) (now order) ⌝ }
-    ensures { λ r. ⌜ r ≡ daysOf (now (colors .exit)) ⌝ }
-    ensures { λ _. ⌜ now (colors .exit) ≡ degreeColors (neighborsOf kind n (now (ends .entry))) (itemsOf kind n (now (ends .entry))) (now (presets .entry)) ⌝ }
+    ensures answer { λ r. ⌜ r ≡ daysOf (now (colors .exit)) ⌝ }
+    ensures colors { λ _. let ends = now (ends .entry) in let presets = now (presets .entry) in
+        ⌜ now (colors .exit) ≡ degreeColors (neighborsOf kind n ends) (itemsOf kind n ends) presets ⌝ }
 {
     let mut starts = [0u16; 513];
     let mut entries = [0u16; 8192];
@@ -123,8 +126,9 @@ fn color_checked(
 fn color_checked_nodes(n: usize, ends: &[u16], presets: &[u16], colors: &mut [u16]) -> usize
     requires { ⌜ Passed n (now ends) ⌝ }
     requires { ⌜ (length (now presets) ≡ itemsOf Nodes n (now ends)) × (length (now colors) ≡ itemsOf Nodes n (now ends)) ⌝ }
-    ensures { λ r. ⌜ r ≡ daysOf (now (colors .exit)) ⌝ }
-    ensures { λ _. ⌜ now (colors .exit) ≡ degreeColors (neighborsOf Nodes n (now (ends .entry))) (itemsOf Nodes n (now (ends .entry))) (now (presets .entry)) ⌝ }
+    ensures answer { λ r. ⌜ r ≡ daysOf (now (colors .exit)) ⌝ }
+    ensures colors { λ _. let ends = now (ends .entry) in let presets = now (presets .entry) in
+        ⌜ now (colors .exit) ≡ degreeColors (neighborsOf Nodes n ends) (itemsOf Nodes n ends) presets ⌝ }
 {
     let mut degrees = [0u16; 512];
     let mut counts = [0u16; 4097];
@@ -145,8 +149,9 @@ fn color_checked_nodes(n: usize, ends: &[u16], presets: &[u16], colors: &mut [u1
 fn color_checked_edges(n: usize, ends: &[u16], presets: &[u16], colors: &mut [u16]) -> usize
     requires { ⌜ Passed n (now ends) ⌝ }
     requires { ⌜ (length (now presets) ≡ itemsOf Edges n (now ends)) × (length (now colors) ≡ itemsOf Edges n (now ends)) ⌝ }
-    ensures { λ r. ⌜ r ≡ daysOf (now (colors .exit)) ⌝ }
-    ensures { λ _. ⌜ now (colors .exit) ≡ degreeColors (neighborsOf Edges n (now (ends .entry))) (itemsOf Edges n (now (ends .entry))) (now (presets .entry)) ⌝ }
+    ensures answer { λ r. ⌜ r ≡ daysOf (now (colors .exit)) ⌝ }
+    ensures colors { λ _. let ends = now (ends .entry) in let presets = now (presets .entry) in
+        ⌜ now (colors .exit) ≡ degreeColors (neighborsOf Edges n ends) (itemsOf Edges n ends) presets ⌝ }
 {
     let mut degrees = [0u16; 4096];
     let mut counts = [0u16; 8191];
@@ -167,8 +172,9 @@ fn color_checked_edges(n: usize, ends: &[u16], presets: &[u16], colors: &mut [u1
 fn color_items(kind: Kind, n: usize, ends: &[u16], presets: &[u16], colors: &mut [u16]) -> usize
     requires { ⌜ Passed n (now ends) ⌝ }
     requires { ⌜ (length (now presets) ≡ itemsOf kind n (now ends)) × (length (now colors) ≡ itemsOf kind n (now ends)) ⌝ }
-    ensures { λ r. ⌜ r ≡ daysOf (now (colors .exit)) ⌝ }
-    ensures { λ _. ⌜ now (colors .exit) ≡ degreeColors (neighborsOf kind n (now (ends .entry))) (itemsOf kind n (now (ends .entry))) (now (presets .entry)) ⌝ }
+    ensures answer { λ r. ⌜ r ≡ daysOf (now (colors .exit)) ⌝ }
+    ensures colors { λ _. let ends = now (ends .entry) in let presets = now (presets .entry) in
+        ⌜ now (colors .exit) ≡ degreeColors (neighborsOf kind n ends) (itemsOf kind n ends) presets ⌝ }
 {
     match kind {
         Kind::Nodes => color_checked_nodes(n, ends, presets, colors),
@@ -179,8 +185,10 @@ fn color_items(kind: Kind, n: usize, ends: &[u16], presets: &[u16], colors: &mut
 // Presets stand as they are; the other items, by falling degree, ties by rising number, each take the smallest colour that no coloured
 // neighbour has. An input that is refused leaves the colours as lent.
 pub fn color(kind: Kind, n: usize, ends: &[u16], presets: &[u16], colors: &mut [u16]) -> Coloring
-    ensures { λ r. ⌜ reportOfColoring r ≡ greedyOf kind degreeColors n (now (ends .entry)) (now (presets .entry)) (now (colors .entry)) .report ⌝ }
-    ensures { λ _. ⌜ now (colors .exit) ≡ greedyOf kind degreeColors n (now (ends .entry)) (now (presets .entry)) (now (colors .entry)) .colors ⌝ }
+    ensures report { λ r. let ends = now (ends .entry) in let presets = now (presets .entry) in let colors = now (colors .entry) in
+        ⌜ reportOfColoring r ≡ greedyOf kind degreeColors n ends presets colors .report ⌝ }
+    ensures colors { λ _. let ends = now (ends .entry) in let presets = now (presets .entry) in let colors₀ = now (colors .entry) in
+        ⌜ now (colors .exit) ≡ greedyOf kind degreeColors n ends presets colors₀ .colors ⌝ }
 {
     match check_items(kind, n, ends, presets.len(), colors.len()) {
         Checked::Refused(refusal) => {

@@ -10,7 +10,7 @@ ghost use Rattle.edge_table.specs.EdgeTable.{optionOf, entryAt, tableEdg
 
 // A node without a place must not be read from the next row.
 fn entry_at(table: &[u16], node: NodeIndex, color: Color) -> Entry
-    ensures { λ r. ⌜ r .0 ≡ entryAt (now (table .entry)) (node .0) (color .0) ⌝ }
+    ensures answer { λ r. ⌜ r .0 ≡ entryAt (now (table .entry)) (node .0) (color .0) ⌝ }
 {
     let v = node.0 as usize;
     if EdgeTable::NODES <= v {
@@ -25,7 +25,7 @@ fn entry_at(table: &[u16], node: NodeIndex, color: Color) -> Entry
 
 // The edge of this colour at the node.
 pub fn edge_of_color(table: &[u16], node: NodeIndex, color: Color) -> EdgeOfColor
-    ensures { λ r. ⌜ optionOf r ≡ tableEdge (now (table .entry)) (node .0) (color .0) ⌝ }
+    ensures answer { λ r. ⌜ optionOf r ≡ tableEdge (now (table .entry)) (node .0) (color .0) ⌝ }
 {
     let entry = entry_at(table, node, color);
     if entry.0 == Entry::NONE {
@@ -37,14 +37,14 @@ pub fn edge_of_color(table: &[u16], node: NodeIndex, color: Color) -> EdgeOfColo
 
 // Whether no edge at the node has this colour.
 pub fn is_free(table: &[u16], node: NodeIndex, color: Color) -> bool
-    ensures { λ r. ⌜ r ≡ isEmpty (now (table .entry)) (node .0) (color .0) ⌝ }
+    ensures answer { λ r. ⌜ r ≡ isEmpty (now (table .entry)) (node .0) (color .0) ⌝ }
 {
     entry_at(table, node, color).0 == Entry::NONE
 }
 
 // The smallest colour that no edge at the node has, or the number of colours if each is there.
 pub fn smallest_free(table: &[u16], node: NodeIndex) -> Color
-    ensures { λ r. ⌜ r .0 ≡ smallestEmpty (now (table .entry)) (node .0) ⌝ }
+    ensures answer { λ r. ⌜ r .0 ≡ smallestEmpty (now (table .entry)) (node .0) ⌝ }
 {
     let mut c = 0;
     while c < EdgeTable::COLORS {

@@ -12,7 +12,7 @@ ghost use Rattle.edge_table.specs.EdgeTable.{entered, enteredAtEnds, sta
 
 // A node without a place must not be entered in the next row.
 fn enter(table: &mut [u16], node: NodeIndex, color: Color, entry: Entry)
-    ensures { λ _. ⌜ now (table .exit) ≡ entered (now (table .entry)) (node .0) (color .0) (entry .0) ⌝ }
+    ensures table { λ _. ⌜ now (table .exit) ≡ entered (now (table .entry)) (node .0) (color .0) (entry .0) ⌝ }
 {
     let v = node.0 as usize;
     if EdgeTable::NODES <= v {
@@ -26,7 +26,8 @@ fn enter(table: &mut [u16], node: NodeIndex, color: Color, entry: Entry)
 }
 
 fn enter_at_ends(ends: &[u16], table: &mut [u16], edge: EdgeIndex, color: Color, entry: Entry)
-    ensures { λ _. ⌜ now (table .exit) ≡ enteredAtEnds (now (ends .entry)) (now (table .entry)) (edge .0) (color .0) (entry .0) ⌝ }
+    ensures table { λ _. let ends = now (ends .entry) in let table₀ = now (table .entry) in
+        ⌜ now (table .exit) ≡ enteredAtEnds ends table₀ (edge .0) (color .0) (entry .0) ⌝ }
 {
     let k = edge.0 as usize;
     let first = end_at(ends, 2 * k);
@@ -37,7 +38,7 @@ fn enter_at_ends(ends: &[u16], table: &mut [u16], edge: EdgeIndex, color: Color,
 
 // What the working list holds for an edge; none beyond it.
 pub fn color_of(work: &[u16], edge: EdgeIndex) -> Color
-    ensures { λ r. ⌜ r .0 ≡ colorOf (now (work .entry)) (edge .0) ⌝ }
+    ensures answer { λ r. ⌜ r .0 ≡ colorOf (now (work .entry)) (edge .0) ⌝ }
 {
     let k = edge.0 as usize;
     if k < work.len() {
@@ -48,7 +49,7 @@ pub fn color_of(work: &[u16], edge: EdgeIndex) -> Color
 }
 
 fn set_color(work: &mut [u16], edge: EdgeIndex, color: Color)
-    ensures { λ _. ⌜ now (work .exit) ≡ set (now (work .entry)) (edge .0) (color .0) ⌝ }
+    ensures work { λ _. ⌜ now (work .exit) ≡ set (now (work .entry)) (edge .0) (color .0) ⌝ }
 {
     let k = edge.0 as usize;
     if work.len() <= k {
@@ -59,8 +60,9 @@ fn set_color(work: &mut [u16], edge: EdgeIndex, color: Color)
 
 // The edge loses its colour. Without one there is nothing to clear: none has no place in the table.
 fn uncolor(ends: &[u16], work: &mut [u16], table: &mut [u16], edge: EdgeIndex)
-    ensures { λ _. ⌜ state (now (work .exit)) (now (table .exit))
-        ≡ uncolored (now (ends .entry)) (state (now (work .entry)) (now (table .entry))) (edge .0) ⌝ }
+    ensures state { λ _. let ends = now (ends .entry) in let work₀ = now (work .entry) in let table₀ = now (table .entry) in
+        ⌜ state (now (work .exit)) (now (table .exit))
+        ≡ uncolored ends (state work₀ table₀) (edge .0) ⌝ }
 {
     let color = color_of(work, edge);
     enter_at_ends(ends, table, edge, color, Entry(Entry::NONE));
@@ -69,16 +71,19 @@ fn uncolor(ends: &[u16], work: &mut [u16], table: &mut [u16], edge: EdgeIndex)
 
 // The edge, which has no colour, takes this one.
 fn color(ends: &[u16], work: &mut [u16], table: &mut [u16], edge: EdgeIndex, color: Color)
-    ensures { λ _. ⌜ state (now (work .exit)) (now (table .exit))
-        ≡ colored (now (ends .entry)) (state (now (work .entry)) (now (table .entry))) (edge .0) (color .0) ⌝ }
+    ensures state { λ _. let ends = now (ends .entry) in let work₀ = now (work .entry) in let table₀ = now (table .entry) in
+        ⌜ state (now (work .exit)) (now (table .exit))
+        ≡ colored ends (state work₀ table₀) (edge .0) (color .0) ⌝ }
 {
     enter_at_ends(ends, table, edge, color, Entry(edge.0));
     set_color(work, edge, color);
 }
 
 fn uncolor_all(ends: &[u16], work: &mut [u16], table: &mut [u16], edges: &[u16])
-    ensures { λ _. ⌜ state (now (work .exit)) (now (table .exit))
-        ≡ allUncolored (now (ends .entry)) (state (now (work .entry)) (now (table .entry))) (now (edges .entry)) ⌝ }
+    ensures state { λ _. let ends = now (ends .entry) in let work₀ = now (work .entry) in let table₀ = now (table .entry) in
+        let edges = now (edges .entry) in
+        ⌜ state (now (work .exit)) (now (table .exit))
+        ≡ allUncolored ends (state work₀ table₀) edges ⌝ }
 {
     let mut i = 0;
     while i < edges.len() {
@@ -88,8 +93,10 @@ fn uncolor_all(ends: &[u16], work: &mut [u16], table: &mut [u16], edges: &[u16])
 }
 
 fn color_all(ends: &[u16], work: &mut [u16], table: &mut [u16], edges: &[u16], colors: &[u16])
-    ensures { λ _. ⌜ state (now (work .exit)) (now (table .exit))
-        ≡ allColored (now (ends .entry)) (state (now (work .entry)) (now (table .entry))) (now (edges .entry)) (now (colors .entry)) ⌝ }
+    ensures state { λ _. let ends = now (ends .entry) in let work₀ = now (work .entry) in let table₀ = now (table .entry) in
+        let edges = now (edges .entry) in let colors = now (colors .entry) in
+        ⌜ state (now (work .exit)) (now (table .exit))
+        ≡ allColored ends (state work₀ table₀) edges colors ⌝ }
 {
     let mut i = 0;
     while i < edges.len() {
@@ -103,8 +110,10 @@ fn color_all(ends: &[u16], work: &mut [u16], table: &mut [u16], edges: &[u16], c
 
 // The edges take these colours in place of their own. All lose theirs first: an edge's new colour may still stand on the next.
 pub fn repaint(ends: &[u16], work: &mut [u16], table: &mut [u16], edges: &[u16], colors: &[u16])
-    ensures { λ _. ⌜ state (now (work .exit)) (now (table .exit))
-        ≡ repainted (now (ends .entry)) (state (now (work .entry)) (now (table .entry))) (now (edges .entry)) (now (colors .entry)) ⌝ }
+    ensures state { λ _. let ends = now (ends .entry) in let work₀ = now (work .entry) in let table₀ = now (table .entry) in
+        let edges = now (edges .entry) in let colors = now (colors .entry) in
+        ⌜ state (now (work .exit)) (now (table .exit))
+        ≡ repainted ends (state work₀ table₀) edges colors ⌝ }
 {
     uncolor_all(ends, work, table, edges);
     color_all(ends, work, table, edges, colors);

@@ -18,14 +18,14 @@ pub enum Joining {
 
 // The stamp of the last step whose fan had the edge, 0 if none had.
 fn mark_of(marks: &[u16], edge: EdgeIndex) -> u16
-    ensures { λ r. ⌜ r ≡ getD (now (marks .entry)) (edge .0) 0 ⌝ }
+    ensures answer { λ r. ⌜ r ≡ getD (now (marks .entry)) (edge .0) 0 ⌝ }
 {
     let k = edge.0 as usize;
     if k < marks.len() { marks[k] } else { 0 }
 }
 
 pub fn set_mark(marks: &mut [u16], edge: EdgeIndex, stamp: u16)
-    ensures { λ _. ⌜ now (marks .exit) ≡ set (now (marks .entry)) (edge .0) stamp ⌝ }
+    ensures marks { λ _. ⌜ now (marks .exit) ≡ set (now (marks .entry)) (edge .0) stamp ⌝ }
 {
     let k = edge.0 as usize;
     if marks.len() <= k {
@@ -36,7 +36,7 @@ pub fn set_mark(marks: &mut [u16], edge: EdgeIndex, stamp: u16)
 
 // Whether the edge is coloured and not in the fan yet.
 fn may_join(work: &[u16], marks: &[u16], stamp: u16, edge: EdgeIndex) -> bool
-    ensures { λ r. ⌜ r ≡ mayJoin (now (work .entry)) (now (marks .entry)) stamp (edge .0) ⌝ }
+    ensures answer { λ r. let work = now (work .entry) in let marks = now (marks .entry) in ⌜ r ≡ mayJoin work marks stamp (edge .0) ⌝ }
 {
     if mark_of(marks, edge) == stamp {
         return false;
@@ -56,7 +56,8 @@ fn joins(
     far: NodeIndex,
     edge: EdgeIndex,
 ) -> bool
-    ensures { λ r. ⌜ r ≡ joinsMarked (now (work .entry)) (now (table .entry)) (now (marks .entry)) stamp (far .0) (edge .0) ⌝ }
+    ensures answer { λ r. let work = now (work .entry) in let table = now (table .entry) in let marks = now (marks .entry) in
+        ⌜ r ≡ joinsMarked work table marks stamp (far .0) (edge .0) ⌝ }
 {
     let color = color_of(work, edge);
     if color.0 == Color::NONE {
@@ -79,8 +80,9 @@ pub fn first_joining(
     near: &[u16],
     from: usize,
 ) -> Joining
-    ensures { λ r. ⌜ optionOf r
-        ≡ firstThat (joinsMarked (now (work .entry)) (now (table .entry)) (now (marks .entry)) stamp (far .0)) (drop from (now (near .entry))) ⌝ }
+    ensures answer { λ r. let work = now (work .entry) in let table = now (table .entry) in let marks = now (marks .entry) in let near = now (near .entry) in
+        ⌜ optionOf r
+        ≡ firstThat (joinsMarked work table marks stamp (far .0)) (drop from near) ⌝ }
 {
     let mut i = from;
     while i < near.len() {
@@ -95,7 +97,8 @@ pub fn first_joining(
 
 // The first place from this one on whose candidate is coloured and not in the fan yet, or the end; from beyond the end, the place itself.
 pub fn skip(work: &[u16], marks: &[u16], stamp: u16, near: &[u16], from: usize) -> usize
-    ensures { λ r. ⌜ r ≡ from + firstPlace (mayJoin (now (work .entry)) (now (marks .entry)) stamp) (drop from (now (near .entry))) ⌝ }
+    ensures answer { λ r. let work = now (work .entry) in let marks = now (marks .entry) in let near = now (near .entry) in
+        ⌜ r ≡ from + firstPlace (mayJoin work marks stamp) (drop from near) ⌝ }
 {
     let mut i = from;
     while i < near.len() {

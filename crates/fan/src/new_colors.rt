@@ -10,7 +10,7 @@ ghost use Rattle.fan.specs.NewColors.{shiftedColors};
 
 // The other of c and d, or the colour itself if it is neither.
 fn swapped(c: Color, d: Color, color: Color) -> Color
-    ensures { λ r. ⌜ r .0 ≡ swap (c .0) (d .0) (color .0) ⌝ }
+    ensures answer { λ r. ⌜ r .0 ≡ swap (c .0) (d .0) (color .0) ⌝ }
 {
     if color.0 == c.0 {
         return d;
@@ -23,7 +23,8 @@ fn swapped(c: Color, d: Color, color: Color) -> Color
 
 // The edges' colours with c and d exchanged, to the front of out if it has room for all.
 pub fn swap_colors(work: &[u16], edges: &[u16], c: Color, d: Color, out: &mut [u16])
-    ensures { λ _. ⌜ now (out .exit) ≡ putFront (exchangedColors (now (work .entry)) (c .0) (d .0) (now (edges .entry))) (now (out .entry)) ⌝ }
+    ensures out { λ _. let work = now (work .entry) in let edges = now (edges .entry) in let out₀ = now (out .entry) in
+        ⌜ now (out .exit) ≡ putFront (exchangedColors work (c .0) (d .0) edges) out₀ ⌝ }
 {
     if out.len() < edges.len() {
         return;
@@ -38,7 +39,8 @@ pub fn swap_colors(work: &[u16], edges: &[u16], c: Color, d: Color, out: &mut [u
 
 // For each place of the fan the colour of the next, and for the last place this colour, to the front of out if it has room for all.
 pub fn shift_colors(work: &[u16], fan: &[u16], color: Color, out: &mut [u16])
-    ensures { λ _. ⌜ now (out .exit) ≡ putFront (shiftedColors (now (work .entry)) (now (fan .entry)) (color .0)) (now (out .entry)) ⌝ }
+    ensures out { λ _. let work = now (work .entry) in let fan = now (fan .entry) in let out₀ = now (out .entry) in
+        ⌜ now (out .exit) ≡ putFront (shiftedColors work fan (color .0)) out₀ ⌝ }
 {
     if fan.len() == 0 {
         return;

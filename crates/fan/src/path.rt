@@ -19,8 +19,10 @@ pub fn follow(
     second: Color,
     out: &mut [u16],
 ) -> usize
-    ensures { λ r. ⌜ r ≡ length (tablePath (now (ends .entry)) (now (table .entry)) (length (now (out .entry))) (node .0) (first .0) (second .0)) ⌝ }
-    ensures { λ _. ⌜ now (out .exit) ≡ over (tablePath (now (ends .entry)) (now (table .entry)) (length (now (out .entry))) (node .0) (first .0) (second .0)) (now (out .entry)) ⌝ }
+    ensures answer { λ r. let ends = now (ends .entry) in let table = now (table .entry) in let out = now (out .entry) in
+        ⌜ r ≡ length (tablePath ends table (length out) (node .0) (first .0) (second .0)) ⌝ }
+    ensures out { λ _. let ends = now (ends .entry) in let table = now (table .entry) in let out₀ = now (out .entry) in
+        ⌜ now (out .exit) ≡ over (tablePath ends table (length out₀) (node .0) (first .0) (second .0)) out₀ ⌝ }
 {
     let mut end = node;
     let mut color = first;

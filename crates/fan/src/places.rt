@@ -19,7 +19,8 @@ pub fn places_to(
     node: NodeIndex,
     far: NodeIndex,
 ) -> usize
-    ensures { λ r. ⌜ r ≡ 1 + length (tablePlaces (now (ends .entry)) (now (table .entry)) (color .0) (node .0) (far .0) (drop 1 (now (fan .entry)))) ⌝ }
+    ensures answer { λ r. let ends = now (ends .entry) in let table = now (table .entry) in let fan = now (fan .entry) in
+        ⌜ r ≡ 1 + length (tablePlaces ends table (color .0) (node .0) (far .0) (drop 1 fan)) ⌝ }
 {
     let mut count = 1;
     let mut end = far;

@@ -9,7 +9,7 @@ use crate::Refusal;
 
 // Whether each end is below n. It goes on where one is not, so that the compiler can take many ends at once.
 fn all_below(n: u16, ends: &[u16]) -> bool
-    ensures { λ r. ⌜ r ≡ allBelow n (now (ends .entry)) ⌝ }
+    ensures answer { λ r. ⌜ r ≡ allBelow n (now (ends .entry)) ⌝ }
 {
     let mut all = true;
     let mut i = 0;
@@ -24,7 +24,7 @@ fn all_below(n: u16, ends: &[u16]) -> bool
 
 // The graph checks, in order, over the whole input.
 pub fn check_graph(n: usize, ends: &[u16]) -> Checked
-    ensures { λ r. ⌜ reportOfChecked r ≡ checkGraph n (now (ends .entry)) ⌝ }
+    ensures report { λ r. ⌜ reportOfChecked r ≡ checkGraph n (now (ends .entry)) ⌝ }
 {
     if n > Graph::MAX_NODES {
         return Checked::Refused(Refusal::TooManyNodes);

@@ -6,7 +6,7 @@ use crate::Color;
 
 // One more than the greatest colour. What has no colour adds no day; a choice without a branch, so that the compiler can take many at once.
 pub fn days_of(colors: &[u16]) -> usize
-    ensures { λ r. ⌜ r ≡ daysOf (now (colors .entry)) ⌝ }
+    ensures answer { λ r. ⌜ r ≡ daysOf (now (colors .entry)) ⌝ }
 {
     let mut days = 0;
     let mut i = colors.len();
@@ -23,7 +23,7 @@ pub fn days_of(colors: &[u16]) -> usize
 
 // Copies from the front as many colours as both slices have.
 pub fn copy_colors(from: &[u16], to: &mut [u16])
-    ensures { λ _. ⌜ now (to .exit) ≡ copiedOver (now (from .entry)) (now (to .entry)) ⌝ }
+    ensures to { λ _. let from = now (from .entry) in let to₀ = now (to .entry) in ⌜ now (to .exit) ≡ copiedOver from to₀ ⌝ }
 {
     let mut i = 0;
     while i < from.len() {

@@ -10,9 +10,10 @@ ghost use Rattle.graph.specs.Stretch.{stretch, stretchStart};
 // The edges at a node, as a part of the entries. Starts that do not cover the node, fall, or pass the entries' end give the
 // empty part at the front, so no caller has to show that the table is well made.
 pub fn edges_at<'a>(starts: &[u16], entries: &'a [u16], node: NodeIndex) -> &'a [u16]
-    ensures { λ r. ⌜ now r ≡ stretch (now (starts .entry)) (now (entries .entry)) (node .0) ⌝ }
-    ensures { λ r. ⌜ (r .ptr .0 ≡ entries .entry .ptr .0)
-        × (r .ptr .1 ≡ entries .entry .ptr .1 + 2 * stretchStart (now (starts .entry)) (now (entries .entry)) (node .0)) ⌝ }
+    ensures contents { λ r. let starts = now (starts .entry) in let entries = now (entries .entry) in ⌜ now r ≡ stretch starts entries (node .0) ⌝ }
+    ensures place { λ r. let starts = now (starts .entry) in let entries₀ = now (entries .entry) in
+        ⌜ (r .ptr .0 ≡ entries .entry .ptr .0)
+        × (r .ptr .1 ≡ entries .entry .ptr .1 + 2 * stretchStart starts entries₀ (node .0)) ⌝ }
 {
     let k = node.0 as usize;
     let next = k + 1;
@@ -32,7 +33,7 @@ pub fn edges_at<'a>(starts: &[u16], entries: &'a [u16], node: NodeIndex) -> &'a 
 
 // What stands at a place of the end list, 0 beyond it.
 pub fn end_at(ends: &[u16], place: usize) -> NodeIndex
-    ensures { λ r. ⌜ r .0 ≡ getD (now (ends .entry)) place 0 ⌝ }
+    ensures answer { λ r. ⌜ r .0 ≡ getD (now (ends .entry)) place 0 ⌝ }
 {
     if place < ends.len() {
         NodeIndex(ends[place])
@@ -43,7 +44,7 @@ pub fn end_at(ends: &[u16], place: usize) -> NodeIndex
 
 // The end of an edge that the node is not; for a loop, the node again.
 pub fn far_end(ends: &[u16], edge: EdgeIndex, node: NodeIndex) -> NodeIndex
-    ensures { λ r. ⌜ r .0 ≡ farEnd (now (ends .entry)) (edge .0) (node .0) ⌝ }
+    ensures answer { λ r. ⌜ r .0 ≡ farEnd (now (ends .entry)) (edge .0) (node .0) ⌝ }
 {
     let k = edge.0 as usize;
     let first = end_at(ends, 2 * k);

@@ -31,7 +31,7 @@ impl Color {
     pub const NONE: u16 = 65535;
 
     pub fn none() -> Self
-        ensures { λ r. ⌜ r .0 ≡ 65535 ⌝ }
+        ensures answer { λ r. ⌜ r .0 ≡ 65535 ⌝ }
     {
         Color(Self::NONE)
     }
@@ -49,7 +49,7 @@ impl Graph {
     pub const MAX_EDGES: usize = 4096;
 
     pub fn new(nodes: usize, edges: usize) -> Self
-        ensures { λ r. ⌜ (r .nodes ≡ nodes) × (r .edges ≡ edges) ⌝ }
+        ensures answer { λ r. ⌜ (r .nodes ≡ nodes) × (r .edges ≡ edges) ⌝ }
     {
         Graph { nodes, edges }
     }
@@ -72,7 +72,7 @@ pub enum Refusal {
 impl Refusal {
     // The number by which the refusal is reported.
     pub fn number(self) -> u32
-        ensures { λ r. ⌜ r ≡ number self ⌝ }
+        ensures answer { λ r. ⌜ r ≡ number self ⌝ }
     {
         match self {
             Refusal::TooManyNodes => 1,

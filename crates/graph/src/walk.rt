@@ -22,7 +22,7 @@ pub enum WalkStep {
 
 // What stands at a place of a stretch.
 pub fn step_at(entries: &[u16], at: usize) -> WalkStep
-    ensures { λ r. ⌜ r ≡ stepAt (now (entries .entry)) at ⌝ }
+    ensures answer { λ r. ⌜ r ≡ stepAt (now (entries .entry)) at ⌝ }
 {
     if at < entries.len() {
         WalkStep::Edge(EdgeIndex(entries[at]), at + 1)
@@ -34,10 +34,12 @@ pub fn step_at(entries: &[u16], at: usize) -> WalkStep
 impl<'a> EdgeWalk<'a> {
     // The walk over a node's edges, at its start.
     pub fn of_node(starts: &[u16], entries: &'a [u16], node: NodeIndex) -> EdgeWalk<'a>
-        ensures { λ r. ⌜ now (r .entries) ≡ stretch (now (starts .entry)) (now (entries .entry)) (node .0) ⌝ }
-        ensures { λ r. ⌜ (r .entries .ptr .0 ≡ entries .entry .ptr .0)
-            × (r .entries .ptr .1 ≡ entries .entry .ptr .1 + 2 * stretchStart (now (starts .entry)) (now (entries .entry)) (node .0)) ⌝ }
-        ensures { λ r. ⌜ r .at ≡ 0 ⌝ }
+        ensures entries { λ r. let starts = now (starts .entry) in let entries = now (entries .entry) in
+            ⌜ now (r .entries) ≡ stretch starts entries (node .0) ⌝ }
+        ensures place { λ r. let starts = now (starts .entry) in let entries₀ = now (entries .entry) in
+            ⌜ (r .entries .ptr .0 ≡ entries .entry .ptr .0)
+            × (r .entries .ptr .1 ≡ entries .entry .ptr .1 + 2 * stretchStart starts entries₀ (node .0)) ⌝ }
+        ensures answer { λ r. ⌜ r .at ≡ 0 ⌝ }
     {
         EdgeWalk {
             entries: edges_at(starts, entries, node),
@@ -47,14 +49,14 @@ impl<'a> EdgeWalk<'a> {
 
     // What stands at the walk's place.
     pub fn peek(self) -> WalkStep
-        ensures { λ r. ⌜ r ≡ stepAt (now (self .entry .entries)) (self .entry .at) ⌝ }
+        ensures answer { λ r. ⌜ r ≡ stepAt (now (self .entry .entries)) (self .entry .at) ⌝ }
     {
         step_at(self.entries, self.at)
     }
 
     // The same walk at another place.
     pub fn moved(self, at: usize) -> EdgeWalk<'a>
-        ensures { λ r. ⌜ (r .entries ≡ self .entry .entries) × (r .at ≡ at) ⌝ }
+        ensures answer { λ r. ⌜ (r .entries ≡ self .entry .entries) × (r .at ≡ at) ⌝ }
     {
         EdgeWalk {
             entries: self.entries,
@@ -65,7 +67,8 @@ impl<'a> EdgeWalk<'a> {
 
 // What stands at a place of a node's walk.
 pub fn edge_at(starts: &[u16], entries: &[u16], node: NodeIndex, at: usize) -> WalkStep
-    ensures { λ r. ⌜ r ≡ stepAt (stretch (now (starts .entry)) (now (entries .entry)) (node .0)) at ⌝ }
+    ensures answer { λ r. let starts = now (starts .entry) in let entries = now (entries .entry) in
+        ⌜ r ≡ stepAt (stretch starts entries (node .0)) at ⌝ }
 {
     EdgeWalk::of_node(starts, entries, node).moved(at).peek()
 }

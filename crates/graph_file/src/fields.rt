@@ -24,8 +24,8 @@ pub enum FieldAt {
 // The field whose tag stands at `at`.
 pub(crate) fn field_at(bytes: &[u8], at: usize) -> FieldAt
     requires { ⌜ at ≤ length (now bytes) ⌝ }
-    ensures { λ r. ⌜ shownField (now (bytes .entry)) r ≡ firstField (drop at (now (bytes .entry))) ⌝ }
-    ensures { λ r. ⌜ ((p : FieldPlace) → r ≡ Whole p → p .start + p .length ≤ length (now (bytes .entry))) ⌝ }
+    ensures answer { λ r. let bytes = now (bytes .entry) in ⌜ shownField bytes r ≡ firstField (drop at bytes) ⌝ }
+    ensures inside { λ r. ⌜ ((p : FieldPlace) → r ≡ Whole p → p .start + p .length ≤ length (now (bytes .entry))) ⌝ }
 {
     if bytes.len() - at < 3 {
         return FieldAt::Truncated;

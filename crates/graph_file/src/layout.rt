@@ -28,8 +28,8 @@ pub enum FileLayout {
 // What follows the node count: the field of the ends, then the end.
 fn after_nodes(bytes: &[u8], at: usize, nodes: usize) -> FileLayout
     requires { ⌜ at ≤ length (now bytes) ⌝ }
-    ensures { λ r. ⌜ shownFile (now (bytes .entry)) r ≡ bind (fields (drop at (now (bytes .entry)))) (afterNodes nodes) ⌝ }
-    ensures { λ r. ⌜ ((g : GraphPlace) → r ≡ Graph g → g .start + 4 * g .edges ≤ length (now (bytes .entry))) ⌝ }
+    ensures answer { λ r. let bytes = now (bytes .entry) in ⌜ shownFile bytes r ≡ bind (fields (drop at bytes)) (afterNodes nodes) ⌝ }
+    ensures inside { λ r. ⌜ ((g : GraphPlace) → r ≡ Graph g → g .start + 4 * g .edges ≤ length (now (bytes .entry))) ⌝ }
 {
     match fields::field_at(bytes, at) {
         FieldAt::Truncated => {
@@ -57,8 +57,8 @@ fn after_nodes(bytes: &[u8], at: usize, nodes: usize) -> FileLayout
 
 // The whole file: the field of the node count comes first.
 pub(crate) fn layout_of(bytes: &[u8]) -> FileLayout
-    ensures { λ r. ⌜ shownFile (now (bytes .entry)) r ≡ fileOf (now (bytes .entry)) ⌝ }
-    ensures { λ r. ⌜ ((g : GraphPlace) → r ≡ Graph g → g .start + 4 * g .edges ≤ length (now (bytes .entry))) ⌝ }
+    ensures answer { λ r. let bytes = now (bytes .entry) in ⌜ shownFile bytes r ≡ fileOf bytes ⌝ }
+    ensures inside { λ r. ⌜ ((g : GraphPlace) → r ≡ Graph g → g .start + 4 * g .edges ≤ length (now (bytes .entry))) ⌝ }
 {
     if bytes.len() > 16392 {
         return FileLayout::Malformed;

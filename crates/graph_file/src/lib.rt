@@ -23,9 +23,10 @@ pub enum FileAnswer {
 
 // The ends are copied to the front of the lent list; they are not tested.
 pub fn read_graph_file(bytes: &[u8], ends: &mut [u16]) -> FileAnswer
-    ensures { λ r. ⌜ reportOfFile r ≡ readFile (now (bytes .entry)) (now (ends .entry)) .report ⌝ }
-    ensures { λ _. ⌜ now (ends .exit) ≡ readFile (now (bytes .entry)) (now (ends .entry)) .ends ⌝ }
-    ensures layout { λ r. ⌜ FileReader (now (bytes .entry)) (now (ends .entry)) (reportOfFile r) (now (ends .exit)) ⌝ }
+    ensures report { λ r. let bytes = now (bytes .entry) in let ends = now (ends .entry) in ⌜ reportOfFile r ≡ readFile bytes ends .report ⌝ }
+    ensures ends { λ _. let bytes = now (bytes .entry) in let ends₀ = now (ends .entry) in ⌜ now (ends .exit) ≡ readFile bytes ends₀ .ends ⌝ }
+    ensures layout { λ r. let bytes = now (bytes .entry) in let ends₀ = now (ends .entry) in
+        ⌜ FileReader bytes ends₀ (reportOfFile r) (now (ends .exit)) ⌝ }
 {
     match layout::layout_of(bytes) {
         FileLayout::Malformed => {

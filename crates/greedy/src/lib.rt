@@ -20,7 +20,7 @@ pub enum ColoringStrategy {
 
 // The checks, given how many items, presets and colours there are.
 fn check_items(n: usize, ends: &[u16], items: usize, presets: usize, colors: usize) -> Checked
-    ensures { λ r. ⌜ reportOfChecked r ≡ checkItems n (now (ends .entry)) items presets colors ⌝ }
+    ensures report { λ r. ⌜ reportOfChecked r ≡ checkItems n (now (ends .entry)) items presets colors ⌝ }
 {
     match check_graph(n, ends) {
         Checked::Refused(refusal) => {
@@ -40,14 +40,14 @@ fn check_items(n: usize, ends: &[u16], items: usize, presets: usize, colors: usi
 
 // The checks of node colouring, given how many presets and colours are lent.
 pub fn check_nodes(n: usize, ends: &[u16], presets: usize, colors: usize) -> Checked
-    ensures { λ r. ⌜ reportOfChecked r ≡ checkNodes n (now (ends .entry)) presets colors ⌝ }
+    ensures report { λ r. ⌜ reportOfChecked r ≡ checkNodes n (now (ends .entry)) presets colors ⌝ }
 {
     check_items(n, ends, n, presets, colors)
 }
 
 // The same of edge colouring.
 pub fn check_edges(n: usize, ends: &[u16], presets: usize, colors: usize) -> Checked
-    ensures { λ r. ⌜ reportOfChecked r ≡ checkEdges n (now (ends .entry)) presets colors ⌝ }
+    ensures report { λ r. ⌜ reportOfChecked r ≡ checkEdges n (now (ends .entry)) presets colors ⌝ }
 {
     check_items(n, ends, ends.len() / 2, presets, colors)
 }

@@ -20,7 +20,7 @@ use graph::far_end;
 
 // Marks a colour, if there is a place for it.
 fn mark(marks: &mut [u8], color: Color)
-    ensures { λ _. ⌜ now (marks .exit) ≡ set (now (marks .entry)) (color .0) 1 ⌝ }
+    ensures marks { λ _. ⌜ now (marks .exit) ≡ set (now (marks .entry)) (color .0) 1 ⌝ }
 {
     let c = color.0 as usize;
     if c < marks.len() {
@@ -30,7 +30,7 @@ fn mark(marks: &mut [u8], color: Color)
 
 // The colour at a place, none beyond the list.
 fn color_of(colors: &[u16], place: usize) -> Color
-    ensures { λ r. ⌜ r .0 ≡ colorOf (now (colors .entry)) place ⌝ }
+    ensures answer { λ r. ⌜ r .0 ≡ colorOf (now (colors .entry)) place ⌝ }
 {
     if place < colors.len() {
         Color(colors[place])
@@ -49,8 +49,10 @@ fn mark_far_colors(
     marks: &mut [u8],
 )
     requires { ⌜ Marked (now marks) [] ⌝ }
-    ensures { λ _. ⌜ Marked (now (marks .exit)) (farColors (now (ends .entry)) (now (colors .entry)) (node .0) (stretch (now (starts .entry)) (now (entries .entry)) (node .0))) ⌝ }
-    ensures { λ _. ⌜ length (now (marks .exit)) ≡ length (now (marks .entry)) ⌝ }
+    ensures marked { λ _. let ends = now (ends .entry) in let colors = now (colors .entry) in let starts = now (starts .entry) in
+        let entries = now (entries .entry) in
+        ⌜ Marked (now (marks .exit)) (farColors ends colors (node .0) (stretch starts entries (node .0))) ⌝ }
+    ensures marks_length { λ _. ⌜ length (now (marks .exit)) ≡ length (now (marks .entry)) ⌝ }
 {
     let mut at = 0;
     loop {
@@ -69,7 +71,7 @@ fn mark_far_colors(
 
 // The first place without a mark, or the end.
 fn first_unmarked(marks: &[u8]) -> usize
-    ensures { λ r. ⌜ FirstUnmarked (now (marks .entry)) r ⌝ }
+    ensures first_unmarked { λ r. ⌜ FirstUnmarked (now (marks .entry)) r ⌝ }
 {
     let mut c = 0;
     while c < marks.len() {
@@ -89,7 +91,9 @@ pub fn smallest_color(
     colors: &[u16],
     node: NodeIndex,
 ) -> Color
-    ensures { λ r. ⌜ r .0 ≡ smallestFrom 512 (farColors (now (ends .entry)) (now (colors .entry)) (node .0) (stretch (now (starts .entry)) (now (entries .entry)) (node .0))) 0 ⌝ }
+    ensures answer { λ r. let ends = now (ends .entry) in let colors = now (colors .entry) in let starts = now (starts .entry) in
+        let entries = now (entries .entry) in
+        ⌜ r .0 ≡ smallestFrom 512 (farColors ends colors (node .0) (stretch starts entries (node .0))) 0 ⌝ }
 {
     let mut marks = [0u8; 512];
     mark_far_colors(ends, starts, entries, colors, node, &mut marks);
@@ -98,8 +102,9 @@ pub fn smallest_color(
 
 // Marks the colours of these edges.
 fn mark_colors(edges: &[u16], colors: &[u16], marks: &mut [u8])
-    ensures { λ _. ⌜ ((cs : List ℕ) → Marked (now (marks .entry)) cs → Marked (now (marks .exit)) (cs ++ colorsOf (now (colors .entry)) (now (edges .entry)))) ⌝ }
-    ensures { λ _. ⌜ length (now (marks .exit)) ≡ length (now (marks .entry)) ⌝ }
+    ensures marks { λ _. let marks₀ = now (marks .entry) in let colors = now (colors .entry) in let edges = now (edges .entry) in
+        ⌜ ((cs : List ℕ) → Marked marks₀ cs → Marked (now (marks .exit)) (cs ++ colorsOf colors edges)) ⌝ }
+    ensures marks_length { λ _. ⌜ length (now (marks .exit)) ≡ length (now (marks .entry)) ⌝ }
 {
     let mut i = 0;
     while i < edges.len() {
@@ -116,8 +121,10 @@ pub fn smallest_edge_color(
     colors: &[u16],
     edge: EdgeIndex,
 ) -> Color
-    ensures { λ r. ⌜ r .0 ≡ smallestFrom 4096 (colorsOf (now (colors .entry)) (stretch (now (starts .entry)) (now (entries .entry)) (firstEnd (now (ends .entry)) (edge .0)))
-        ++ colorsOf (now (colors .entry)) (stretch (now (starts .entry)) (now (entries .entry)) (secondEnd (now (ends .entry)) (edge .0)))) 0 ⌝ }
+    ensures answer { λ r. let colors = now (colors .entry) in let starts = now (starts .entry) in let entries = now (entries .entry) in
+        let ends = now (ends .entry) in
+        ⌜ r .0 ≡ smallestFrom 4096 (colorsOf colors (stretch starts entries (firstEnd ends (edge .0)))
+        ++ colorsOf colors (stretch starts entries (secondEnd ends (edge .0)))) 0 ⌝ }
 {
     let mut marks = [0u8; 4096];
     let place = 2 * edge.0 as usize;

@@ -16,9 +16,12 @@ use items::Kind;
 // Degree without presets. The local list stands for as many empty presets as there are colours; where there are more colours
 // than a graph may have nodes, the length is refused whatever the presets.
 pub fn greedy_node_color(n: usize, ends: &[u16], colors: &mut [u16]) -> Coloring
-    ensures { λ r. ⌜ reportOfColoring r ≡ greedyNodesPlain degreeColors n (now (ends .entry)) (now (colors .entry)) .report ⌝ }
-    ensures { λ _. ⌜ now (colors .exit) ≡ greedyNodesPlain degreeColors n (now (ends .entry)) (now (colors .entry)) .colors ⌝ }
-    ensures accepts { λ r. ⌜ (Passed n (now (ends .entry)) → length (now (colors .entry)) ≡ n → Accepted (reportOfColoring r)) ⌝ }
+    ensures report { λ r. let ends = now (ends .entry) in let colors = now (colors .entry) in
+        ⌜ reportOfColoring r ≡ greedyNodesPlain degreeColors n ends colors .report ⌝ }
+    ensures colors { λ _. let ends = now (ends .entry) in let colors₀ = now (colors .entry) in
+        ⌜ now (colors .exit) ≡ greedyNodesPlain degreeColors n ends colors₀ .colors ⌝ }
+    ensures accepts { λ r. let ends = now (ends .entry) in let colors = now (colors .entry) in
+        ⌜ (Passed n ends → length colors ≡ n → Accepted (reportOfColoring r)) ⌝ }
     ensures proper { λ r. ⌜ ProperNodeColoring n (now (ends .entry)) [] (reportOfColoring r) (now (colors .exit)) ⌝ }
 {
     let presets = [Color::NONE; 512];
@@ -37,11 +40,15 @@ pub fn greedy_node_color_with_preset_colors(
     presets: &[u16],
     colors: &mut [u16],
 ) -> Coloring
-    ensures { λ r. ⌜ reportOfColoring r ≡ greedyNodes degreeColors n (now (ends .entry)) (now (presets .entry)) (now (colors .entry)) .report ⌝ }
-    ensures { λ _. ⌜ now (colors .exit) ≡ greedyNodes degreeColors n (now (ends .entry)) (now (presets .entry)) (now (colors .entry)) .colors ⌝ }
-    ensures accepts { λ r. ⌜ (Passed n (now (ends .entry)) → length (now (presets .entry)) ≡ n → length (now (colors .entry)) ≡ n → Accepted (reportOfColoring r)) ⌝ }
+    ensures report { λ r. let ends = now (ends .entry) in let presets = now (presets .entry) in let colors = now (colors .entry) in
+        ⌜ reportOfColoring r ≡ greedyNodes degreeColors n ends presets colors .report ⌝ }
+    ensures colors { λ _. let ends = now (ends .entry) in let presets = now (presets .entry) in let colors₀ = now (colors .entry) in
+        ⌜ now (colors .exit) ≡ greedyNodes degreeColors n ends presets colors₀ .colors ⌝ }
+    ensures accepts { λ r. let ends = now (ends .entry) in let presets = now (presets .entry) in let colors = now (colors .entry) in
+        ⌜ (Passed n ends → length presets ≡ n → length colors ≡ n → Accepted (reportOfColoring r)) ⌝ }
     ensures precoloring { λ r. ⌜ PrecoloringKept n (now (presets .entry)) (reportOfColoring r) (now (colors .exit)) ⌝ }
-    ensures proper { λ r. ⌜ ProperNodeColoring n (now (ends .entry)) (now (presets .entry)) (reportOfColoring r) (now (colors .exit)) ⌝ }
+    ensures proper { λ r. let ends = now (ends .entry) in let presets = now (presets .entry) in
+        ⌜ ProperNodeColoring n ends presets (reportOfColoring r) (now (colors .exit)) ⌝ }
 {
     degree::color(Kind::Nodes, n, ends, presets, colors)
 }
@@ -54,11 +61,15 @@ pub fn greedy_node_color_with_coloring_strategy(
     strategy: ColoringStrategy,
     colors: &mut [u16],
 ) -> Coloring
-    ensures { λ r. ⌜ reportOfColoring r ≡ greedyNodes (ruleOf strategy) n (now (ends .entry)) (now (presets .entry)) (now (colors .entry)) .report ⌝ }
-    ensures { λ _. ⌜ now (colors .exit) ≡ greedyNodes (ruleOf strategy) n (now (ends .entry)) (now (presets .entry)) (now (colors .entry)) .colors ⌝ }
-    ensures accepts { λ r. ⌜ (Passed n (now (ends .entry)) → length (now (presets .entry)) ≡ n → length (now (colors .entry)) ≡ n → Accepted (reportOfColoring r)) ⌝ }
+    ensures report { λ r. let ends = now (ends .entry) in let presets = now (presets .entry) in let colors = now (colors .entry) in
+        ⌜ reportOfColoring r ≡ greedyNodes (ruleOf strategy) n ends presets colors .report ⌝ }
+    ensures colors { λ _. let ends = now (ends .entry) in let presets = now (presets .entry) in let colors₀ = now (colors .entry) in
+        ⌜ now (colors .exit) ≡ greedyNodes (ruleOf strategy) n ends presets colors₀ .colors ⌝ }
+    ensures accepts { λ r. let ends = now (ends .entry) in let presets = now (presets .entry) in let colors = now (colors .entry) in
+        ⌜ (Passed n ends → length presets ≡ n → length colors ≡ n → Accepted (reportOfColoring r)) ⌝ }
     ensures precoloring { λ r. ⌜ PrecoloringKept n (now (presets .entry)) (reportOfColoring r) (now (colors .exit)) ⌝ }
-    ensures proper { λ r. ⌜ ProperNodeColoring n (now (ends .entry)) (now (presets .entry)) (reportOfColoring r) (now (colors .exit)) ⌝ }
+    ensures proper { λ r. let ends = now (ends .entry) in let presets = now (presets .entry) in
+        ⌜ ProperNodeColoring n ends presets (reportOfColoring r) (now (colors .exit)) ⌝ }
 {
     match strategy {
         ColoringStrategy::Degree => degree::color(Kind::Nodes, n, ends, presets, colors),
@@ -69,9 +80,12 @@ pub fn greedy_node_color_with_coloring_strategy(
 
 // The edges by Degree without presets, in the same way.
 pub fn greedy_edge_color(n: usize, ends: &[u16], colors: &mut [u16]) -> Coloring
-    ensures { λ r. ⌜ reportOfColoring r ≡ greedyEdgesPlain degreeColors n (now (ends .entry)) (now (colors .entry)) .report ⌝ }
-    ensures { λ _. ⌜ now (colors .exit) ≡ greedyEdgesPlain degreeColors n (now (ends .entry)) (now (colors .entry)) .colors ⌝ }
-    ensures accepts { λ r. ⌜ (Passed n (now (ends .entry)) → length (now (colors .entry)) ≡ edgeCount (now (ends .entry)) → Accepted (reportOfColoring r)) ⌝ }
+    ensures report { λ r. let ends = now (ends .entry) in let colors = now (colors .entry) in
+        ⌜ reportOfColoring r ≡ greedyEdgesPlain degreeColors n ends colors .report ⌝ }
+    ensures colors { λ _. let ends = now (ends .entry) in let colors₀ = now (colors .entry) in
+        ⌜ now (colors .exit) ≡ greedyEdgesPlain degreeColors n ends colors₀ .colors ⌝ }
+    ensures accepts { λ r. let ends = now (ends .entry) in let colors = now (colors .entry) in
+        ⌜ (Passed n ends → length colors ≡ edgeCount ends → Accepted (reportOfColoring r)) ⌝ }
     ensures proper { λ r. ⌜ ProperEdgeColoring (now (ends .entry)) [] (reportOfColoring r) (now (colors .exit)) ⌝ }
 {
     let presets = [Color::NONE; 4096];
@@ -91,11 +105,16 @@ pub fn greedy_edge_color_with_coloring_strategy(
     strategy: ColoringStrategy,
     colors: &mut [u16],
 ) -> Coloring
-    ensures { λ r. ⌜ reportOfColoring r ≡ greedyEdges (ruleOf strategy) n (now (ends .entry)) (now (presets .entry)) (now (colors .entry)) .report ⌝ }
-    ensures { λ _. ⌜ now (colors .exit) ≡ greedyEdges (ruleOf strategy) n (now (ends .entry)) (now (presets .entry)) (now (colors .entry)) .colors ⌝ }
-    ensures accepts { λ r. ⌜ (Passed n (now (ends .entry)) → length (now (presets .entry)) ≡ edgeCount (now (ends .entry)) → length (now (colors .entry)) ≡ edgeCount (now (ends .entry)) → Accepted (reportOfColoring r)) ⌝ }
-    ensures precoloring { λ r. ⌜ PrecoloringKept (edgeCount (now (ends .entry))) (now (presets .entry)) (reportOfColoring r) (now (colors .exit)) ⌝ }
-    ensures proper { λ r. ⌜ ProperEdgeColoring (now (ends .entry)) (now (presets .entry)) (reportOfColoring r) (now (colors .exit)) ⌝ }
+    ensures report { λ r. let ends = now (ends .entry) in let presets = now (presets .entry) in let colors = now (colors .entry) in
+        ⌜ reportOfColoring r ≡ greedyEdges (ruleOf strategy) n ends presets colors .report ⌝ }
+    ensures colors { λ _. let ends = now (ends .entry) in let presets = now (presets .entry) in let colors₀ = now (colors .entry) in
+        ⌜ now (colors .exit) ≡ greedyEdges (ruleOf strategy) n ends presets colors₀ .colors ⌝ }
+    ensures accepts { λ r. let ends = now (ends .entry) in let presets = now (presets .entry) in let colors = now (colors .entry) in
+        ⌜ (Passed n ends → length presets ≡ edgeCount ends → length colors ≡ edgeCount ends → Accepted (reportOfColoring r)) ⌝ }
+    ensures precoloring { λ r. let ends = now (ends .entry) in let presets = now (presets .entry) in
+        ⌜ PrecoloringKept (edgeCount ends) presets (reportOfColoring r) (now (colors .exit)) ⌝ }
+    ensures proper { λ r. let ends = now (ends .entry) in let presets = now (presets .entry) in
+        ⌜ ProperEdgeColoring ends presets (reportOfColoring r) (now (colors .exit)) ⌝ }
 {
     match strategy {
         ColoringStrategy::Degree => degree::color(Kind::Edges, n, ends, presets, colors),

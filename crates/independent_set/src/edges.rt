@@ -23,7 +23,7 @@ use line_graph::node_of_edge;
 
 // Where an edge stands among these, their end if it does not.
 fn place_of(edges: &[u16], edge: EdgeIndex) -> usize
-    ensures { λ r. ⌜ r ≡ placeOf (edge .0) (now (edges .entry)) ⌝ }
+    ensures answer { λ r. ⌜ r ≡ placeOf (edge .0) (now (edges .entry)) ⌝ }
 {
     let mut i = 0;
     while i < edges.len() {
@@ -37,7 +37,7 @@ fn place_of(edges: &[u16], edge: EdgeIndex) -> usize
 
 // Of these edges those after an edge, or those before it.
 fn part_of<'a>(edges: &'a [u16], edge: EdgeIndex, later: bool) -> &'a [u16]
-    ensures { λ r. ⌜ now r ≡ partIn later (edge .0) (now (edges .entry)) ⌝ }
+    ensures contents { λ r. ⌜ now r ≡ partIn later (edge .0) (now (edges .entry)) ⌝ }
 {
     let at = place_of(edges, edge);
     if later {
@@ -60,7 +60,8 @@ fn put_off_part(
 ) -> Counts
     requires { ⌜ ((j : ℕ) → Mem j (now edges) → j < count) ⌝ }
     requires { ⌜ Held count (now listed) (now place) (now next) (counts .listed) (counts .next) (listsAt (now listed) (now next) (counts .listed) (counts .next)) ⌝ }
-    ensures { λ r. ⌜ Held count (now (listed .exit)) (now (place .exit)) (now (next .exit)) (r .listed) (r .next) (putOffAll (listsAt (now (listed .entry)) (now (next .entry)) (counts .listed) (counts .next)) (reverse (now (edges .entry)))) ⌝ }
+    ensures held { λ r. let listed₀ = now (listed .entry) in let next₀ = now (next .entry) in let edges = now (edges .entry) in
+        ⌜ Held count (now (listed .exit)) (now (place .exit)) (now (next .exit)) (r .listed) (r .next) (putOffAll (listsAt listed₀ next₀ (counts .listed) (counts .next)) (reverse edges)) ⌝ }
 {
     let mut reached = counts;
     let mut i = edges.len();
@@ -79,7 +80,7 @@ struct EdgeEnds {
 }
 
 fn ends_of(ends: &[u16], edge: EdgeIndex) -> EdgeEnds
-    ensures { λ r. ⌜ (r .higher .0 ≡ higherEnd (now (ends .entry)) (edge .0)) × (r .lower .0 ≡ lowerEnd (now (ends .entry)) (edge .0)) ⌝ }
+    ensures answer { λ r. let ends = now (ends .entry) in ⌜ (r .higher .0 ≡ higherEnd ends (edge .0)) × (r .lower .0 ≡ lowerEnd ends (edge .0)) ⌝ }
 {
     let k = edge.0 as usize;
     let first = end_at(ends, 2 * k);
@@ -104,7 +105,8 @@ fn part_at<'a>(
     edge: EdgeIndex,
     turn: usize,
 ) -> &'a [u16]
-    ensures { λ r. ⌜ now r ≡ partAt (stretch (now (starts .entry)) (now (entries .entry))) (now (ends .entry)) (edge .0) turn ⌝ }
+    ensures contents { λ r. let starts = now (starts .entry) in let entries = now (entries .entry) in let ends = now (ends .entry) in
+        ⌜ now r ≡ partAt (stretch starts entries) ends (edge .0) turn ⌝ }
 {
     let both = ends_of(ends, edge);
     let later = turn < 2;
@@ -131,8 +133,9 @@ pub(crate) fn put_off_sharing(
 ) -> Counts
     requires { ⌜ (items .edges ≡ true) × Tabled items (now ends) (now starts) (now entries) × (edge .0 < items .count) ⌝ }
     requires { ⌜ Held (items .count) (now listed) (now place) (now next) (counts .listed) (counts .next) (listsAt (now listed) (now next) (counts .listed) (counts .next)) ⌝ }
-    ensures { λ r. ⌜ Held (items .count) (now (listed .exit)) (now (place .exit)) (now (next .exit)) (r .listed) (r .next)
-        (putOffAll (listsAt (now (listed .entry)) (now (next .entry)) (counts .listed) (counts .next)) (neighborsOf items (now (ends .entry)) (edge .0))) ⌝ }
+    ensures held { λ r. let listed₀ = now (listed .entry) in let next₀ = now (next .entry) in let ends = now (ends .entry) in
+        ⌜ Held (items .count) (now (listed .exit)) (now (place .exit)) (now (next .exit)) (r .listed) (r .next)
+        (putOffAll (listsAt listed₀ next₀ (counts .listed) (counts .next)) (neighborsOf items ends (edge .0))) ⌝ }
 {
     let mut reached = counts;
     let mut turn = 0;

@@ -26,7 +26,8 @@ mod rounds;
 fn color_checked(items: Items, ends: &[u16], presets: &[u16], colors: &mut [u16])
     requires { ⌜ Passed (items .nodes) (now ends) ⌝ }
     requires { ⌜ (items .count ≡ countOf items (now ends)) × (length (now presets) ≡ items .count) × (length (now colors) ≡ items .count) ⌝ }
-    ensures { λ _. ⌜ now (colors .exit) ≡ independentSetColors (neighborsOf items (now (ends .entry))) (items .count) (now (presets .entry)) ⌝ }
+    ensures colors { λ _. let ends = now (ends .entry) in let presets = now (presets .entry) in
+        ⌜ now (colors .exit) ≡ independentSetColors (neighborsOf items ends) (items .count) presets ⌝ }
 {
     let mut starts = [0u16; 513];
     let mut entries = [0u16; 8192];
@@ -52,8 +53,10 @@ fn color_checked(items: Items, ends: &[u16], presets: &[u16], colors: &mut [u16]
 
 // Node colouring with presets, by independent sets.
 pub fn color_nodes(n: usize, ends: &[u16], presets: &[u16], colors: &mut [u16]) -> Coloring
-    ensures { λ r. ⌜ reportOfColoring r ≡ greedyNodes independentSetColors n (now (ends .entry)) (now (presets .entry)) (now (colors .entry)) .report ⌝ }
-    ensures { λ _. ⌜ now (colors .exit) ≡ greedyNodes independentSetColors n (now (ends .entry)) (now (presets .entry)) (now (colors .entry)) .colors ⌝ }
+    ensures report { λ r. let ends = now (ends .entry) in let presets = now (presets .entry) in let colors = now (colors .entry) in
+        ⌜ reportOfColoring r ≡ greedyNodes independentSetColors n ends presets colors .report ⌝ }
+    ensures colors { λ _. let ends = now (ends .entry) in let presets = now (presets .entry) in let colors₀ = now (colors .entry) in
+        ⌜ now (colors .exit) ≡ greedyNodes independentSetColors n ends presets colors₀ .colors ⌝ }
 {
     match check_nodes(n, ends, presets.len(), colors.len()) {
         Checked::Refused(refusal) => {
@@ -74,8 +77,10 @@ pub fn color_nodes(n: usize, ends: &[u16], presets: &[u16], colors: &mut [u16]) 
 
 // Edge colouring with presets, by independent sets of the line list, which is never stored.
 pub fn color_edges(n: usize, ends: &[u16], presets: &[u16], colors: &mut [u16]) -> Coloring
-    ensures { λ r. ⌜ reportOfColoring r ≡ greedyEdges independentSetColors n (now (ends .entry)) (now (presets .entry)) (now (colors .entry)) .report ⌝ }
-    ensures { λ _. ⌜ now (colors .exit) ≡ greedyEdges independentSetColors n (now (ends .entry)) (now (presets .entry)) (now (colors .entry)) .colors ⌝ }
+    ensures report { λ r. let ends = now (ends .entry) in let presets = now (presets .entry) in let colors = now (colors .entry) in
+        ⌜ reportOfColoring r ≡ greedyEdges independentSetColors n ends presets colors .report ⌝ }
+    ensures colors { λ _. let ends = now (ends .entry) in let presets = now (presets .entry) in let colors₀ = now (colors .entry) in
+        ⌜ now (colors .exit) ≡ greedyEdges independentSetColors n ends presets colors₀ .colors ⌝ }
 {
     match check_edges(n, ends, presets.len(), colors.len()) {
         Checked::Refused(refusal) => {

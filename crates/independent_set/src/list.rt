@@ -19,7 +19,8 @@ pub struct Counts {
 // Lists the items without a colour, rising; how many they are.
 pub(crate) fn list_uncolored(presets: &[u16], listed: &mut [u16], place: &mut [u16]) -> usize
     requires { ⌜ (length (now presets) ≤ 4096) × (length (now listed) ≡ 4096) × (length (now place) ≡ 4096) ⌝ }
-    ensures { λ r. ⌜ Listing (length (now (presets .entry))) (now (listed .exit)) (now (place .exit)) r (uncolored (now (presets .entry)) (length (now (presets .entry)))) ⌝ }
+    ensures listing { λ r. let presets = now (presets .entry) in
+        ⌜ Listing (length presets) (now (listed .exit)) (now (place .exit)) r (uncolored presets (length presets)) ⌝ }
 {
     let mut len = 0;
     let mut v = 0;
@@ -38,8 +39,9 @@ pub(crate) fn list_uncolored(presets: &[u16], listed: &mut [u16], place: &mut [u
 // Takes a listed item out: the last of the list goes to its place.
 pub(crate) fn take_out(listed: &mut [u16], place: &mut [u16], len: usize, item: NodeIndex)
     requires { ⌜ (item .0 < length (now place)) × (getD (now place) (item .0) 0 < len) × (len ≤ length (now listed)) × (getD (now listed) (len - 1) 0 < length (now place)) ⌝ }
-    ensures { λ _. ⌜ (now (listed .exit) ≡ set (now (listed .entry)) (getD (now (place .entry)) (item .0) 0) (getD (now (listed .entry)) (len - 1) 0))
-        × (now (place .exit) ≡ set (now (place .entry)) (getD (now (listed .entry)) (len - 1) 0) (getD (now (place .entry)) (item .0) 0)) ⌝ }
+    ensures listed_and_place { λ _. let listed₀ = now (listed .entry) in let place₀ = now (place .entry) in
+        ⌜ (now (listed .exit) ≡ set listed₀ (getD place₀ (item .0) 0) (getD listed₀ (len - 1) 0))
+        × (now (place .exit) ≡ set place₀ (getD listed₀ (len - 1) 0) (getD place₀ (item .0) 0)) ⌝ }
 {
     let hole = place[item.0 as usize];
     let last = listed[len - 1];
@@ -58,7 +60,8 @@ pub(crate) fn put_off(
 ) -> Counts
     requires { ⌜ Held count (now listed) (now place) (now next) (counts .listed) (counts .next) (listsAt (now listed) (now next) (counts .listed) (counts .next)) ⌝ }
     requires { ⌜ item .0 < count ⌝ }
-    ensures { λ r. ⌜ Held count (now (listed .exit)) (now (place .exit)) (now (next .exit)) (r .listed) (r .next) (putOff (listsAt (now (listed .entry)) (now (next .entry)) (counts .listed) (counts .next)) (item .0)) ⌝ }
+    ensures held { λ r. let listed₀ = now (listed .entry) in let next₀ = now (next .entry) in
+        ⌜ Held count (now (listed .exit)) (now (place .exit)) (now (next .exit)) (r .listed) (r .next) (putOff (listsAt listed₀ next₀ (counts .listed) (counts .next)) (item .0)) ⌝ }
 {
     let len = counts.listed;
     let end = counts.next;

@@ -27,8 +27,9 @@ pub(crate) fn put_off_far_ends(
 ) -> Counts
     requires { ⌜ (items .edges ≡ false) × Tabled items (now ends) (now starts) (now entries) × (node .0 < items .count) ⌝ }
     requires { ⌜ Held (items .count) (now listed) (now place) (now next) (counts .listed) (counts .next) (listsAt (now listed) (now next) (counts .listed) (counts .next)) ⌝ }
-    ensures { λ r. ⌜ Held (items .count) (now (listed .exit)) (now (place .exit)) (now (next .exit)) (r .listed) (r .next)
-        (putOffAll (listsAt (now (listed .entry)) (now (next .entry)) (counts .listed) (counts .next)) (neighborsOf items (now (ends .entry)) (node .0))) ⌝ }
+    ensures held { λ r. let listed₀ = now (listed .entry) in let next₀ = now (next .entry) in let ends = now (ends .entry) in
+        ⌜ Held (items .count) (now (listed .exit)) (now (place .exit)) (now (next .exit)) (r .listed) (r .next)
+        (putOffAll (listsAt listed₀ next₀ (counts .listed) (counts .next)) (neighborsOf items ends (node .0))) ⌝ }
 {
     let mut reached = counts;
     let edges = edges_at(starts, entries, node);

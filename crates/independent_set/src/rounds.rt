@@ -31,8 +31,9 @@ fn put_off_neighbors(
     requires { ⌜ Tabled items (now ends) (now starts) (now entries) ⌝ }
     requires { ⌜ Held (items .count) (now listed) (now place) (now next) (counts .listed) (counts .next) (listsAt (now listed) (now next) (counts .listed) (counts .next)) ⌝ }
     requires { ⌜ item .0 < items .count ⌝ }
-    ensures { λ r. ⌜ Held (items .count) (now (listed .exit)) (now (place .exit)) (now (next .exit)) (r .listed) (r .next)
-        (putOffAll (listsAt (now (listed .entry)) (now (next .entry)) (counts .listed) (counts .next)) (neighborsOf items (now (ends .entry)) (item .0))) ⌝ }
+    ensures held { λ r. let listed₀ = now (listed .entry) in let next₀ = now (next .entry) in let ends = now (ends .entry) in
+        ⌜ Held (items .count) (now (listed .exit)) (now (place .exit)) (now (next .exit)) (r .listed) (r .next)
+        (putOffAll (listsAt listed₀ next₀ (counts .listed) (counts .next)) (neighborsOf items ends (item .0))) ⌝ }
 {
     if items.edges {
         let edge = edge_of_node(item);
@@ -77,8 +78,10 @@ fn put_off_presets(
     requires { ⌜ Tabled items (now ends) (now starts) (now entries) ⌝ }
     requires { ⌜ Held (items .count) (now listed) (now place) (now next) (counts .listed) (counts .next) (listsAt (now listed) (now next) (counts .listed) (counts .next)) ⌝ }
     requires { ⌜ length (now presets) ≡ items .count ⌝ }
-    ensures { λ r. ⌜ Held (items .count) (now (listed .exit)) (now (place .exit)) (now (next .exit)) (r .listed) (r .next)
-        (putOffPresets (neighborsOf items (now (ends .entry))) (now (presets .entry)) (color .0) (items .count) (listsAt (now (listed .entry)) (now (next .entry)) (counts .listed) (counts .next))) ⌝ }
+    ensures held { λ r. let ends = now (ends .entry) in let presets = now (presets .entry) in let listed₀ = now (listed .entry) in
+        let next₀ = now (next .entry) in
+        ⌜ Held (items .count) (now (listed .exit)) (now (place .exit)) (now (next .exit)) (r .listed) (r .next)
+        (putOffPresets (neighborsOf items ends) presets (color .0) (items .count) (listsAt listed₀ next₀ (counts .listed) (counts .next))) ⌝ }
 {
     let mut reached = counts;
     let mut v = 0;
@@ -119,8 +122,10 @@ fn color_listed(
     requires { ⌜ Tabled items (now ends) (now starts) (now entries) ⌝ }
     requires { ⌜ Held (items .count) (now listed) (now place) (now next) (counts .listed) (counts .next) (listsAt (now listed) (now next) (counts .listed) (counts .next)) ⌝ }
     requires { ⌜ length (now colors) ≡ items .count ⌝ }
-    ensures { λ r. ⌜ Rounded (items .count) (now (next .exit)) (now (place .exit)) r (now (colors .exit))
-        (colorListed (neighborsOf items (now (ends .entry))) (color .0) (counts .listed) (listsAt (now (listed .entry)) (now (next .entry)) (counts .listed) (counts .next)) (now (colors .entry))) ⌝ }
+    ensures rounded { λ r. let ends = now (ends .entry) in let listed = now (listed .entry) in let next₀ = now (next .entry) in
+        let colors₀ = now (colors .entry) in
+        ⌜ Rounded (items .count) (now (next .exit)) (now (place .exit)) r (now (colors .exit))
+        (colorListed (neighborsOf items ends) (color .0) (counts .listed) (listsAt listed next₀ (counts .listed) (counts .next)) colors₀) ⌝ }
 {
     let mut reached = counts;
     while 0 < reached.listed {
@@ -164,7 +169,9 @@ pub(crate) fn color_rounds(
     requires { ⌜ Tabled items (now ends) (now starts) (now entries) ⌝ }
     requires { ⌜ Listing (items .count) (now listed) (now place) len (take len (now listed)) ⌝ }
     requires { ⌜ (length (now presets) ≡ items .count) × (length (now next) ≡ 4096) × (length (now colors) ≡ items .count) ⌝ }
-    ensures { λ _. ⌜ now (colors .exit) ≡ rounds (neighborsOf items (now (ends .entry))) (items .count) (now (presets .entry)) (items .count) 0 (take len (now (listed .entry))) (now (colors .entry)) ⌝ }
+    ensures colors { λ _. let ends = now (ends .entry) in let presets = now (presets .entry) in let listed = now (listed .entry) in
+        let colors₀ = now (colors .entry) in
+        ⌜ now (colors .exit) ≡ rounds (neighborsOf items ends) (items .count) presets (items .count) 0 (take len listed) colors₀ ⌝ }
 {
     let mut waiting = len;
     let mut r = 0;

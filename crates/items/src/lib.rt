@@ -30,7 +30,7 @@ pub enum Kind {
 
 // The checks of colouring these items, given how many presets and colours are lent.
 pub fn check_items(kind: Kind, n: usize, ends: &[u16], presets: usize, colors: usize) -> Checked
-    ensures { λ r. ⌜ reportOfChecked r ≡ checkItems n (now (ends .entry)) (itemsOf kind n (now (ends .entry))) presets colors ⌝ }
+    ensures report { λ r. let ends = now (ends .entry) in ⌜ reportOfChecked r ≡ checkItems n ends (itemsOf kind n ends) presets colors ⌝ }
 {
     match kind {
         Kind::Nodes => check_nodes(n, ends, presets, colors),
@@ -40,7 +40,7 @@ pub fn check_items(kind: Kind, n: usize, ends: &[u16], presets: usize, colors: u
 
 // The first node of an item: a node itself, or an edge's first end.
 pub fn first_node(kind: Kind, ends: &[u16], item: NodeIndex) -> NodeIndex
-    ensures { λ r. ⌜ r .0 ≡ firstNode kind (now (ends .entry)) (item .0) ⌝ }
+    ensures answer { λ r. ⌜ r .0 ≡ firstNode kind (now (ends .entry)) (item .0) ⌝ }
 {
     match kind {
         Kind::Nodes => item,
@@ -50,7 +50,7 @@ pub fn first_node(kind: Kind, ends: &[u16], item: NodeIndex) -> NodeIndex
 
 // The second node of an item: a node itself again, or an edge's second end.
 pub fn second_node(kind: Kind, ends: &[u16], item: NodeIndex) -> NodeIndex
-    ensures { λ r. ⌜ r .0 ≡ secondNode kind (now (ends .entry)) (item .0) ⌝ }
+    ensures answer { λ r. ⌜ r .0 ≡ secondNode kind (now (ends .entry)) (item .0) ⌝ }
 {
     match kind {
         Kind::Nodes => item,
@@ -60,7 +60,7 @@ pub fn second_node(kind: Kind, ends: &[u16], item: NodeIndex) -> NodeIndex
 
 // The item to which an edge leads from a node: its far end, or the edge itself.
 pub fn across(kind: Kind, ends: &[u16], edge: EdgeIndex, node: NodeIndex) -> NodeIndex
-    ensures { λ r. ⌜ r .0 ≡ acrossOf kind (now (ends .entry)) (edge .0) (node .0) ⌝ }
+    ensures answer { λ r. ⌜ r .0 ≡ acrossOf kind (now (ends .entry)) (edge .0) (node .0) ⌝ }
 {
     match kind {
         Kind::Nodes => far_end(ends, edge, node),
@@ -70,7 +70,7 @@ pub fn across(kind: Kind, ends: &[u16], edge: EdgeIndex, node: NodeIndex) -> Nod
 
 // How many edges stand at a node of an item, an edge itself not counted.
 fn count_at(kind: Kind, starts: &[u16], entries: &[u16], node: NodeIndex) -> usize
-    ensures { λ r. ⌜ r ≡ countAt kind (now (starts .entry)) (now (entries .entry)) (node .0) ⌝ }
+    ensures answer { λ r. let starts = now (starts .entry) in let entries = now (entries .entry) in ⌜ r ≡ countAt kind starts entries (node .0) ⌝ }
 {
     let edges = edges_at(starts, entries, node);
     if edges.len() == 0 {
@@ -90,7 +90,8 @@ pub fn neighbor_count(
     entries: &[u16],
     item: NodeIndex,
 ) -> usize
-    ensures { λ r. ⌜ r ≡ neighborCount kind (now (ends .entry)) (now (starts .entry)) (now (entries .entry)) (item .0) ⌝ }
+    ensures answer { λ r. let ends = now (ends .entry) in let starts = now (starts .entry) in let entries = now (entries .entry) in
+        ⌜ r ≡ neighborCount kind ends starts entries (item .0) ⌝ }
 {
     let first = first_node(kind, ends, item);
     let second = second_node(kind, ends, item);
@@ -111,7 +112,9 @@ pub fn free_color(
     colors: &[u16],
     item: NodeIndex,
 ) -> Color
-    ensures { λ r. ⌜ r .0 ≡ freeColor kind (now (ends .entry)) (now (starts .entry)) (now (entries .entry)) (now (colors .entry)) (item .0) ⌝ }
+    ensures answer { λ r. let ends = now (ends .entry) in let starts = now (starts .entry) in let entries = now (entries .entry) in
+        let colors = now (colors .entry) in
+        ⌜ r .0 ≡ freeColor kind ends starts entries colors (item .0) ⌝ }
 {
     match kind {
         Kind::Nodes => smallest_color(ends, starts, entries, colors, item),

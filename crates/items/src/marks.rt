@@ -28,7 +28,9 @@ fn stands_at(
     node: NodeIndex,
     color: Color,
 ) -> bool
-    ensures { λ r. ⌜ r ≡ standsAt kind (now (ends .entry)) (now (colors .entry)) (color .0) (node .0) (stretch (now (starts .entry)) (now (entries .entry)) (node .0)) ⌝ }
+    ensures answer { λ r. let ends = now (ends .entry) in let colors = now (colors .entry) in let starts = now (starts .entry) in
+        let entries = now (entries .entry) in
+        ⌜ r ≡ standsAt kind ends colors (color .0) (node .0) (stretch starts entries (node .0)) ⌝ }
 {
     let edges = edges_at(starts, entries, node);
     let mut i = edges.len();
@@ -56,8 +58,10 @@ fn ask(
     node: NodeIndex,
 ) -> bool
     requires { ⌜ Asked kind (now ends) (now starts) (now entries) (now colors) (color .0) (now at) ⌝ }
-    ensures { λ r. ⌜ (r ≡ stands kind (now (ends .entry)) (now (starts .entry)) (now (entries .entry)) (now (colors .entry)) (color .0) (node .0))
-        × Asked kind (now (ends .entry)) (now (starts .entry)) (now (entries .entry)) (now (colors .entry)) (color .0) (now (at .exit)) ⌝ }
+    ensures answer { λ r. let ends = now (ends .entry) in let starts = now (starts .entry) in let entries = now (entries .entry) in
+        let colors = now (colors .entry) in
+        ⌜ (r ≡ stands kind ends starts entries colors (color .0) (node .0))
+        × Asked kind ends starts entries colors (color .0) (now (at .exit)) ⌝ }
 {
     let w = node.0 as usize;
     if at.len() <= w {
@@ -86,8 +90,10 @@ fn item_mark(
     item: NodeIndex,
 ) -> u8
     requires { ⌜ Asked kind (now ends) (now starts) (now entries) (now colors) (color .0) (now at) ⌝ }
-    ensures { λ r. ⌜ (r ≡ markOf kind (now (ends .entry)) (now (starts .entry)) (now (entries .entry)) (now (colors .entry)) (color .0) (item .0))
-        × Asked kind (now (ends .entry)) (now (starts .entry)) (now (entries .entry)) (now (colors .entry)) (color .0) (now (at .exit)) ⌝ }
+    ensures answer { λ r. let ends = now (ends .entry) in let starts = now (starts .entry) in let entries = now (entries .entry) in
+        let colors = now (colors .entry) in
+        ⌜ (r ≡ markOf kind ends starts entries colors (color .0) (item .0))
+        × Asked kind ends starts entries colors (color .0) (now (at .exit)) ⌝ }
 {
     let v = item.0 as usize;
     if colors.len() <= v {
@@ -121,8 +127,12 @@ fn mark_along(
     node: NodeIndex,
 )
     requires { ⌜ Asked kind (now ends) (now starts) (now entries) (now colors) (color .0) (now at) ⌝ }
-    ensures { λ _. ⌜ now (marks .exit) ≡ stored (markOf kind (now (ends .entry)) (now (starts .entry)) (now (entries .entry)) (now (colors .entry)) (color .0)) (acrossAll kind (now (ends .entry)) (node .0) (now (edges .entry))) (now (marks .entry)) ⌝ }
-    ensures { λ _. ⌜ Asked kind (now (ends .entry)) (now (starts .entry)) (now (entries .entry)) (now (colors .entry)) (color .0) (now (at .exit)) ⌝ }
+    ensures marks { λ _. let ends = now (ends .entry) in let starts = now (starts .entry) in let entries = now (entries .entry) in
+        let colors = now (colors .entry) in let edges = now (edges .entry) in let marks₀ = now (marks .entry) in
+        ⌜ now (marks .exit) ≡ stored (markOf kind ends starts entries colors (color .0)) (acrossAll kind ends (node .0) edges) marks₀ ⌝ }
+    ensures asked { λ _. let ends = now (ends .entry) in let starts = now (starts .entry) in let entries = now (entries .entry) in
+        let colors = now (colors .entry) in
+        ⌜ Asked kind ends starts entries colors (color .0) (now (at .exit)) ⌝ }
 {
     let mut i = 0;
     while i < edges.len() {
@@ -147,7 +157,9 @@ fn mark_known(
     marks: &mut [u8],
     item: NodeIndex,
 )
-    ensures { λ _. ⌜ now (marks .exit) ≡ stored (markOf kind (now (ends .entry)) (now (starts .entry)) (now (entries .entry)) (now (colors .entry)) (color .0)) (around kind (now (ends .entry)) (now (starts .entry)) (now (entries .entry)) (item .0)) (now (marks .entry)) ⌝ }
+    ensures marks { λ _. let ends = now (ends .entry) in let starts = now (starts .entry) in let entries = now (entries .entry) in
+        let colors = now (colors .entry) in let marks₀ = now (marks .entry) in
+        ⌜ now (marks .exit) ≡ stored (markOf kind ends starts entries colors (color .0)) (around kind ends starts entries (item .0)) marks₀ ⌝ }
 {
     let mut at = [0u8; 512];
     let first = first_node(kind, ends, item);
@@ -185,7 +197,7 @@ fn mark_known(
 
 // Whether an item has the colour.
 fn has_color(colors: &[u16], color: Color) -> bool
-    ensures { λ r. ⌜ r ≡ elem (color .0) (now (colors .entry)) ⌝ }
+    ensures answer { λ r. ⌜ r ≡ elem (color .0) (now (colors .entry)) ⌝ }
 {
     let mut v = 0;
     while v < colors.len() {
@@ -208,7 +220,9 @@ pub fn mark_used(
     marks: &mut [u8],
     item: NodeIndex,
 )
-    ensures { λ _. ⌜ now (marks .exit) ≡ usedMarks kind (now (ends .entry)) (now (starts .entry)) (now (entries .entry)) (now (colors .entry)) (color .0) (item .0) (now (marks .entry)) ⌝ }
+    ensures marks { λ _. let ends = now (ends .entry) in let starts = now (starts .entry) in let entries = now (entries .entry) in
+        let colors = now (colors .entry) in let marks₀ = now (marks .entry) in
+        ⌜ now (marks .exit) ≡ usedMarks kind ends starts entries colors (color .0) (item .0) marks₀ ⌝ }
 {
     if has_color(colors, color) {
         mark_known(kind, ends, starts, entries, colors, color, marks, item);

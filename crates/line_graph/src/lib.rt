@@ -21,14 +21,14 @@ pub enum LineList {
 // The node of the line graph that an edge becomes. A `NodeIndex` is made of an `EdgeIndex` by this function alone, and the other way by the
 // next; slices hold plain numbers.
 pub fn node_of_edge(edge: EdgeIndex) -> NodeIndex
-    ensures { λ r. ⌜ r .0 ≡ edge .0 ⌝ }
+    ensures answer { λ r. ⌜ r .0 ≡ edge .0 ⌝ }
 {
     NodeIndex(edge.0)
 }
 
 // The edge that became a node of the line graph.
 pub fn edge_of_node(node: NodeIndex) -> EdgeIndex
-    ensures { λ r. ⌜ r .0 ≡ node .0 ⌝ }
+    ensures answer { λ r. ⌜ r .0 ≡ node .0 ⌝ }
 {
     EdgeIndex(node.0)
 }
@@ -36,8 +36,8 @@ pub fn edge_of_node(node: NodeIndex) -> EdgeIndex
 // A graph that passed the checks. The list's length is known before anything is written, so a list that is too short stays as lent.
 fn list_pairs(n: usize, ends: &[u16], list: &mut [u16]) -> LineList
     requires { ⌜ Passed n (now ends) ⌝ }
-    ensures { λ r. ⌜ reportOfLineList r ≡ lineGraph n (now (ends .entry)) (now (list .entry)) .report ⌝ }
-    ensures { λ _. ⌜ now (list .exit) ≡ lineGraph n (now (ends .entry)) (now (list .entry)) .list ⌝ }
+    ensures report { λ r. let ends = now (ends .entry) in let list = now (list .entry) in ⌜ reportOfLineList r ≡ lineGraph n ends list .report ⌝ }
+    ensures list { λ _. let ends = now (ends .entry) in let list₀ = now (list .entry) in ⌜ now (list .exit) ≡ lineGraph n ends list₀ .list ⌝ }
 {
     let mut starts = [0u16; 513];
     let mut entries = [0u16; 8192];
@@ -52,8 +52,8 @@ fn list_pairs(n: usize, ends: &[u16], list: &mut [u16]) -> LineList
 
 // For nodes rising, each edge at the node is paired with those after it there; numbers beyond the pairs stay as lent.
 pub fn line_graph(n: usize, ends: &[u16], list: &mut [u16]) -> LineList
-    ensures { λ r. ⌜ reportOfLineList r ≡ lineGraph n (now (ends .entry)) (now (list .entry)) .report ⌝ }
-    ensures { λ _. ⌜ now (list .exit) ≡ lineGraph n (now (ends .entry)) (now (list .entry)) .list ⌝ }
+    ensures report { λ r. let ends = now (ends .entry) in let list = now (list .entry) in ⌜ reportOfLineList r ≡ lineGraph n ends list .report ⌝ }
+    ensures list { λ _. let ends = now (ends .entry) in let list₀ = now (list .entry) in ⌜ now (list .exit) ≡ lineGraph n ends list₀ .list ⌝ }
 {
     match check_graph(n, ends) {
         Checked::Refused(refusal) => {

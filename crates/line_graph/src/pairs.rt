@@ -15,7 +15,7 @@ use graph::edges_at;
 pub(crate) fn list_length(n: usize, starts: &[u16], entries: &[u16]) -> usize
     requires { ⌜ n ≤ 512 ⌝ }
     requires { ⌜ ((v : ℕ) → v < n → length (stretch (now starts) (now entries) v) ≤ 4096) ⌝ }
-    ensures { λ r. ⌜ r ≡ length (pairsBelow (now (starts .entry)) (now (entries .entry)) n) ⌝ }
+    ensures answer { λ r. let starts = now (starts .entry) in let entries = now (entries .entry) in ⌜ r ≡ length (pairsBelow starts entries n) ⌝ }
 {
     let mut total = 0;
     let mut v = 0;
@@ -30,8 +30,9 @@ pub(crate) fn list_length(n: usize, starts: &[u16], entries: &[u16]) -> usize
 // The pairs of an edge with each of the later ones, from place `at` on; the answer is the place behind them.
 fn write_pairs_with(edge: EdgeIndex, later: &[u16], list: &mut [u16], at: usize) -> usize
     requires { ⌜ at + 2 * length (now later) ≤ length (now list) ⌝ }
-    ensures { λ r. ⌜ r ≡ at + 2 * length (now (later .entry)) ⌝ }
-    ensures { λ _. ⌜ now (list .exit) ≡ placed (now (list .entry)) at (pairsWith (edge .0) (now (later .entry))) ⌝ }
+    ensures answer { λ r. ⌜ r ≡ at + 2 * length (now (later .entry)) ⌝ }
+    ensures list { λ _. let list₀ = now (list .entry) in let later = now (later .entry) in
+        ⌜ now (list .exit) ≡ placed list₀ at (pairsWith (edge .0) later) ⌝ }
 {
     let mut i = 0;
     while i < later.len() {
@@ -48,8 +49,8 @@ fn write_pairs_with(edge: EdgeIndex, later: &[u16], list: &mut [u16], at: usize)
 // The pairs of one node's edges, from place `at` on; the answer is the place behind them.
 fn write_pairs_of(edges: &[u16], list: &mut [u16], at: usize) -> usize
     requires { ⌜ at + length (pairsOf (now edges)) ≤ length (now list) ⌝ }
-    ensures { λ r. ⌜ r ≡ at + length (pairsOf (now (edges .entry))) ⌝ }
-    ensures { λ _. ⌜ now (list .exit) ≡ placed (now (list .entry)) at (pairsOf (now (edges .entry))) ⌝ }
+    ensures answer { λ r. ⌜ r ≡ at + length (pairsOf (now (edges .entry))) ⌝ }
+    ensures list { λ _. let list₀ = now (list .entry) in let edges = now (edges .entry) in ⌜ now (list .exit) ≡ placed list₀ at (pairsOf edges) ⌝ }
 {
     let mut place = at;
     let mut i = 0;
@@ -66,7 +67,8 @@ fn write_pairs_of(edges: &[u16], list: &mut [u16], at: usize) -> usize
 pub(crate) fn write_pairs(n: usize, starts: &[u16], entries: &[u16], list: &mut [u16])
     requires { ⌜ n ≤ 512 ⌝ }
     requires { ⌜ length (pairsBelow (now starts) (now entries) n) ≤ length (now list) ⌝ }
-    ensures { λ _. ⌜ now (list .exit) ≡ over (pairsBelow (now (starts .entry)) (now (entries .entry)) n) (now (list .entry)) ⌝ }
+    ensures list { λ _. let starts = now (starts .entry) in let entries = now (entries .entry) in let list₀ = now (list .entry) in
+        ⌜ now (list .exit) ≡ over (pairsBelow starts entries n) list₀ ⌝ }
 {
     let mut place = 0;
     let mut v = 0;

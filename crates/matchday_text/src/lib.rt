@@ -18,8 +18,10 @@ mod put;
 
 // The text of a call that is lent these colour places.
 fn outcome_text(n: usize, ends: &[u16], colors: &mut [u16], text: &mut [u8]) -> usize
-    ensures { λ r. ⌜ r ≡ length (outcomeText (now (ends .entry)) (misraGries n (now (ends .entry)) (now (colors .entry)))) ⌝ }
-    ensures { λ _. ⌜ now (text .exit) ≡ copiedOver (outcomeText (now (ends .entry)) (misraGries n (now (ends .entry)) (now (colors .entry)))) (now (text .entry)) ⌝ }
+    ensures answer { λ r. let ends = now (ends .entry) in let colors = now (colors .entry) in
+        ⌜ r ≡ length (outcomeText ends (misraGries n ends colors)) ⌝ }
+    ensures text { λ _. let ends = now (ends .entry) in let colors = now (colors .entry) in let text₀ = now (text .entry) in
+        ⌜ now (text .exit) ≡ copiedOver (outcomeText ends (misraGries n ends colors)) text₀ ⌝ }
 {
     match misra_gries_edge_color(n, ends, colors) {
         Coloring::Refused(refusal) => put_refused(text, refusal.number() as usize),
@@ -29,7 +31,7 @@ fn outcome_text(n: usize, ends: &[u16], colors: &mut [u16], text: &mut [u8]) -> 
 
 // The edges that a list of this many ends has, 4,096 at most: a longer list is refused whatever is lent.
 fn lent_places(ends: usize) -> usize
-    ensures { λ r. ⌜ r ≡ min (ends / 2) 4096 ⌝ }
+    ensures answer { λ r. ⌜ r ≡ min (ends / 2) 4096 ⌝ }
 {
     let edges = ends / 2;
     if edges < 4096 {
@@ -40,8 +42,9 @@ fn lent_places(ends: usize) -> usize
 
 // The text of a graph: as much of it as there is room for, and its whole length.
 fn graph_text(n: usize, ends: &[u16], text: &mut [u8]) -> usize
-    ensures { λ r. ⌜ r ≡ length (coloredText n (now (ends .entry))) ⌝ }
-    ensures { λ _. ⌜ now (text .exit) ≡ copiedOver (coloredText n (now (ends .entry))) (now (text .entry)) ⌝ }
+    ensures answer { λ r. ⌜ r ≡ length (coloredText n (now (ends .entry))) ⌝ }
+    ensures text { λ _. let ends = now (ends .entry) in let text₀ = now (text .entry) in
+        ⌜ now (text .exit) ≡ copiedOver (coloredText n ends) text₀ ⌝ }
 {
     let mut colors = [Color::NONE; 4096];
     let m = lent_places(ends.len());
@@ -50,8 +53,9 @@ fn graph_text(n: usize, ends: &[u16], text: &mut [u8]) -> usize
 
 // The text of a file: as much of it as there is room for, and its whole length.
 pub fn matchday_text(bytes: &[u8], text: &mut [u8]) -> usize
-    ensures { λ r. ⌜ r ≡ length (fileText (now (bytes .entry))) ⌝ }
-    ensures { λ _. ⌜ now (text .exit) ≡ copiedOver (fileText (now (bytes .entry))) (now (text .entry)) ⌝ }
+    ensures answer { λ r. ⌜ r ≡ length (fileText (now (bytes .entry))) ⌝ }
+    ensures text { λ _. let bytes = now (bytes .entry) in let text₀ = now (text .entry) in
+        ⌜ now (text .exit) ≡ copiedOver (fileText bytes) text₀ ⌝ }
 {
     let mut ends = [0u16; 8192];
     match read_graph_file(bytes, &mut ends) {

@@ -13,7 +13,7 @@ ghost use Rattle.matchday_text.specs.Put.{Put, Room};
 
 // The colour of an edge, 65,535 beyond the list.
 fn color_at(colors: &[u16], edge: EdgeIndex) -> usize
-    ensures { λ r. ⌜ r ≡ colorOf (now (colors .entry)) (edge .0) ⌝ }
+    ensures answer { λ r. ⌜ r ≡ colorOf (now (colors .entry)) (edge .0) ⌝ }
 {
     let k = edge.0 as usize;
     if k < colors.len() {
@@ -33,7 +33,7 @@ fn put_line(
     color: usize,
 ) -> usize
     requires { ⌜ Room at (line (edge .0) (first .0) (second .0) color) ⌝ }
-    ensures { λ r. ⌜ Put (now (text .entry)) at (line (edge .0) (first .0) (second .0) color) (now (text .exit)) r ⌝ }
+    ensures put { λ r. ⌜ Put (now (text .entry)) at (line (edge .0) (first .0) (second .0) color) (now (text .exit)) r ⌝ }
 {
     let a = put_number(text, at, edge.0 as usize, b' ');
     let b = put_number(text, a, first.0 as usize, b' ');
@@ -44,7 +44,8 @@ fn put_line(
 // The line of one edge.
 fn put_edge(text: &mut [u8], at: usize, ends: &[u16], colors: &[u16], edge: EdgeIndex) -> usize
     requires { ⌜ Room at (edgeLine (now ends) (now colors) (edge .0)) ⌝ }
-    ensures { λ r. ⌜ Put (now (text .entry)) at (edgeLine (now (ends .entry)) (now (colors .entry)) (edge .0)) (now (text .exit)) r ⌝ }
+    ensures put { λ r. let text₀ = now (text .entry) in let ends = now (ends .entry) in let colors = now (colors .entry) in
+        ⌜ Put text₀ at (edgeLine ends colors (edge .0)) (now (text .exit)) r ⌝ }
 {
     let k = edge.0 as usize;
     let first = end_at(ends, 2 * k);
@@ -57,7 +58,8 @@ fn put_edge(text: &mut [u8], at: usize, ends: &[u16], colors: &[u16], edge: Edge
 fn put_edges(text: &mut [u8], at: usize, ends: &[u16], colors: &[u16]) -> usize
     requires { ⌜ edgeCount (now ends) ≤ 65535 ⌝ }
     requires { ⌜ Room at (edgeLines (now ends) (now colors) (edgeCount (now ends))) ⌝ }
-    ensures { λ r. ⌜ Put (now (text .entry)) at (edgeLines (now (ends .entry)) (now (colors .entry)) (edgeCount (now (ends .entry)))) (now (text .exit)) r ⌝ }
+    ensures put { λ r. let text₀ = now (text .entry) in let ends = now (ends .entry) in let colors = now (colors .entry) in
+        ⌜ Put text₀ at (edgeLines ends colors (edgeCount ends)) (now (text .exit)) r ⌝ }
 {
     let m = ends.len() / 2;
     let mut next = at;
@@ -73,7 +75,8 @@ fn put_edges(text: &mut [u8], at: usize, ends: &[u16], colors: &[u16]) -> usize
 pub(crate) fn put_days(text: &mut [u8], days: usize, ends: &[u16], colors: &[u16]) -> usize
     requires { ⌜ edgeCount (now ends) ≤ 65535 ⌝ }
     requires { ⌜ Room 0 (daysText days (now ends) (now colors)) ⌝ }
-    ensures { λ r. ⌜ Put (now (text .entry)) 0 (daysText days (now (ends .entry)) (now (colors .entry))) (now (text .exit)) r ⌝ }
+    ensures put { λ r. let text₀ = now (text .entry) in let ends = now (ends .entry) in let colors = now (colors .entry) in
+        ⌜ Put text₀ 0 (daysText days ends colors) (now (text .exit)) r ⌝ }
 {
     let a = put_bytes(text, 0, b"days ");
     let b = put_number(text, a, days, b'\n');
@@ -83,7 +86,7 @@ pub(crate) fn put_days(text: &mut [u8], days: usize, ends: &[u16], colors: &[u16
 // The text of a refusal.
 pub(crate) fn put_refused(text: &mut [u8], number: usize) -> usize
     requires { ⌜ Room 0 (refusedText number) ⌝ }
-    ensures { λ r. ⌜ Put (now (text .entry)) 0 (refusedText number) (now (text .exit)) r ⌝ }
+    ensures put { λ r. ⌜ Put (now (text .entry)) 0 (refusedText number) (now (text .exit)) r ⌝ }
 {
     let a = put_bytes(text, 0, b"refused ");
     put_number(text, a, number, b'\n')

@@ -6,7 +6,7 @@ ghost use Rattle.matchday_text.specs.Put.{Put, Room};
 // One byte; a place past the end of the slice is counted and not written.
 fn put(text: &mut [u8], at: usize, byte: u8) -> usize
     requires { ⌜ Room at (byte ∷ []) ⌝ }
-    ensures { λ r. ⌜ Put (now (text .entry)) at (byte ∷ []) (now (text .exit)) r ⌝ }
+    ensures put { λ r. ⌜ Put (now (text .entry)) at (byte ∷ []) (now (text .exit)) r ⌝ }
 {
     if text.len() <= at {
         return at + 1;
@@ -17,7 +17,7 @@ fn put(text: &mut [u8], at: usize, byte: u8) -> usize
 
 pub(crate) fn put_bytes(text: &mut [u8], at: usize, bytes: &[u8]) -> usize
     requires { ⌜ Room at (now bytes) ⌝ }
-    ensures { λ r. ⌜ Put (now (text .entry)) at (now (bytes .entry)) (now (text .exit)) r ⌝ }
+    ensures put { λ r. let text₀ = now (text .entry) in let bytes = now (bytes .entry) in ⌜ Put text₀ at bytes (now (text .exit)) r ⌝ }
 {
     let mut next = at;
     let mut i = 0;
@@ -31,7 +31,7 @@ pub(crate) fn put_bytes(text: &mut [u8], at: usize, bytes: &[u8]) -> usize
 // The digits of a tenth of the number, then its last digit.
 fn put_decimal(text: &mut [u8], at: usize, x: usize) -> usize
     requires { ⌜ Room at (decimal x) ⌝ }
-    ensures { λ r. ⌜ Put (now (text .entry)) at (decimal x) (now (text .exit)) r ⌝ }
+    ensures put { λ r. ⌜ Put (now (text .entry)) at (decimal x) (now (text .exit)) r ⌝ }
 {
     if x < 10 {
         return put(text, at, (48 + x) as u8);
@@ -43,7 +43,7 @@ fn put_decimal(text: &mut [u8], at: usize, x: usize) -> usize
 // A number, and the byte that follows it.
 pub(crate) fn put_number(text: &mut [u8], at: usize, x: usize, after: u8) -> usize
     requires { ⌜ Room at (followed x after) ⌝ }
-    ensures { λ r. ⌜ Put (now (text .entry)) at (followed x after) (now (text .exit)) r ⌝ }
+    ensures put { λ r. ⌜ Put (now (text .entry)) at (followed x after) (now (text .exit)) r ⌝ }
 {
     let next = put_decimal(text, at, x);
     put(text, next, after)

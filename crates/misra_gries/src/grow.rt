@@ -28,9 +28,10 @@ pub(crate) fn grow(
 ) -> usize
     requires { ⌜ FanReady (now ends) (edgeCount (now ends)) (now work) (now table) (now marks) stamp (now near) (edge .0) (node .0) ⌝ }
     requires { ⌜ 512 ≤ length (now out) ⌝ }
-    ensures { λ r. ⌜ take r (now (out .exit)) ≡ fanOf (now (ends .entry)) (edgeCount (now (ends .entry))) (now (work .entry)) (edge .0) ⌝ }
-    ensures { λ r. ⌜ r ≤ 512 ⌝ }
-    ensures { λ _. ⌜ ((j : ℕ) → getD (now (marks .exit)) j 0 ≤ stamp) ⌝ }
+    ensures out { λ r. let ends = now (ends .entry) in let work = now (work .entry) in
+        ⌜ take r (now (out .exit)) ≡ fanOf ends (edgeCount ends) work (edge .0) ⌝ }
+    ensures bound { λ r. ⌜ r ≤ 512 ⌝ }
+    ensures marks { λ _. ⌜ ((j : ℕ) → getD (now (marks .exit)) j 0 ≤ stamp) ⌝ }
 {
     let mut next = edge;
     let mut len = 0;

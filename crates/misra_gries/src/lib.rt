@@ -30,7 +30,7 @@ mod tally;
 
 // Days from the tally: the list is not gone through again.
 fn days_of_tally(tally: Tally) -> usize
-    ensures { λ r. ⌜ r ≡ cond (eqb (tally .edges) 0) 0 (tally .greatest + 1) ⌝ }
+    ensures answer { λ r. ⌜ r ≡ cond (eqb (tally .edges) 0) 0 (tally .greatest + 1) ⌝ }
 {
     if tally.edges == 0 {
         return 0;
@@ -49,8 +49,8 @@ fn color_simple(
     requires { ⌜ Admitted n (now ends) ⌝ }
     requires { ⌜ Table (now ends) n (now starts) (now entries) ⌝ }
     requires { ⌜ length (now colors) ≡ edgeCount (now ends) ⌝ }
-    ensures { λ r. ⌜ r ≡ daysOf (take (edgeCount (now (ends .entry))) (held n (now (ends .entry)) (edgeCount (now (ends .entry))))) ⌝ }
-    ensures { λ _. ⌜ now (colors .exit) ≡ take (edgeCount (now (ends .entry))) (held n (now (ends .entry)) (edgeCount (now (ends .entry)))) ⌝ }
+    ensures answer { λ r. let ends = now (ends .entry) in ⌜ r ≡ daysOf (take (edgeCount ends) (held n ends (edgeCount ends))) ⌝ }
+    ensures colors { λ _. let ends = now (ends .entry) in ⌜ now (colors .exit) ≡ take (edgeCount ends) (held n ends (edgeCount ends)) ⌝ }
 {
     let mut work = [Color::NONE; 4096];
     let mut table = [Color::NONE; EdgeTable::PLACES];
@@ -65,8 +65,8 @@ fn color_simple(
 fn color_admitted(n: usize, ends: &[u16], colors: &mut [u16]) -> usize
     requires { ⌜ Admitted n (now ends) ⌝ }
     requires { ⌜ length (now colors) ≡ edgeCount (now ends) ⌝ }
-    ensures { λ r. ⌜ r ≡ daysOf (take (edgeCount (now (ends .entry))) (held n (now (ends .entry)) (edgeCount (now (ends .entry))))) ⌝ }
-    ensures { λ _. ⌜ now (colors .exit) ≡ take (edgeCount (now (ends .entry))) (held n (now (ends .entry)) (edgeCount (now (ends .entry)))) ⌝ }
+    ensures answer { λ r. let ends = now (ends .entry) in ⌜ r ≡ daysOf (take (edgeCount ends) (held n ends (edgeCount ends))) ⌝ }
+    ensures colors { λ _. let ends = now (ends .entry) in ⌜ now (colors .exit) ≡ take (edgeCount ends) (held n ends (edgeCount ends)) ⌝ }
 {
     let mut starts = [0u16; 513];
     let mut entries = [0u16; 8192];
@@ -76,9 +76,12 @@ fn color_admitted(n: usize, ends: &[u16], colors: &mut [u16]) -> usize
 
 // Each edge gets a colour, by Misra and Gries 1992.
 pub fn misra_gries_edge_color(n: usize, ends: &[u16], colors: &mut [u16]) -> Coloring
-    ensures { λ r. ⌜ reportOfColoring r ≡ misraGries n (now (ends .entry)) (now (colors .entry)) .report ⌝ }
-    ensures { λ _. ⌜ now (colors .exit) ≡ misraGries n (now (ends .entry)) (now (colors .entry)) .colors ⌝ }
-    ensures vizing { λ r. ⌜ VizingColoring n (now (ends .entry)) (now (colors .entry)) (reportOfColoring r) (now (colors .exit)) ⌝ }
+    ensures report { λ r. let ends = now (ends .entry) in let colors = now (colors .entry) in
+        ⌜ reportOfColoring r ≡ misraGries n ends colors .report ⌝ }
+    ensures colors { λ _. let ends = now (ends .entry) in let colors₀ = now (colors .entry) in
+        ⌜ now (colors .exit) ≡ misraGries n ends colors₀ .colors ⌝ }
+    ensures vizing { λ r. let ends = now (ends .entry) in let colors₀ = now (colors .entry) in
+        ⌜ VizingColoring n ends colors₀ (reportOfColoring r) (now (colors .exit)) ⌝ }
 {
     match check_graph(n, ends) {
         Checked::Refused(refusal) => {

@@ -16,7 +16,8 @@ pub(crate) fn run(
     marks: &mut [u16],
 ) -> Tally
     requires { ⌜ Running n (now ends) (now starts) (now entries) (now work) (now table) (now marks) (record { edges = 0; greatest = 0 }) 0 ⌝ }
-    ensures { λ r. ⌜ Running n (now (ends .entry)) (now (starts .entry)) (now (entries .entry)) (now (work .exit)) (now (table .exit)) (now (marks .exit)) r (edgeCount (now (ends .entry))) ⌝ }
+    ensures running { λ r. let ends = now (ends .entry) in let starts = now (starts .entry) in let entries = now (entries .entry) in
+        ⌜ Running n ends starts entries (now (work .exit)) (now (table .exit)) (now (marks .exit)) r (edgeCount ends) ⌝ }
 {
     let m = ends.len() / 2;
     let mut tally = Tally {

@@ -34,9 +34,11 @@ fn exchange_edges(
     d: Color,
 ) -> usize
     requires { ⌜ Exchanging (now ends) n (now work) (now table) (node .0) (c .0) (d .0) ⌝ }
-    ensures { λ r. ⌜ r ≡ length (path (now (ends .entry)) (edgeCount (now (ends .entry))) n (now (work .entry)) (node .0) (d .0) (c .0)) ⌝ }
-    ensures { λ _. ⌜ (now (work .exit) ≡ exchange (now (work .entry)) (c .0) (d .0) (path (now (ends .entry)) (edgeCount (now (ends .entry))) n (now (work .entry)) (node .0) (d .0) (c .0)))
-        × TableOf (now (ends .entry)) (edgeCount (now (ends .entry))) (now (work .exit)) (now (table .exit)) ⌝ }
+    ensures answer { λ r. let ends = now (ends .entry) in let work = now (work .entry) in
+        ⌜ r ≡ length (path ends (edgeCount ends) n work (node .0) (d .0) (c .0)) ⌝ }
+    ensures work_and_table { λ _. let work₀ = now (work .entry) in let ends = now (ends .entry) in
+        ⌜ (now (work .exit) ≡ exchange work₀ (c .0) (d .0) (path ends (edgeCount ends) n work₀ (node .0) (d .0) (c .0)))
+        × TableOf ends (edgeCount ends) (now (work .exit)) (now (table .exit)) ⌝ }
 {
     let mut edges = [0u16; 512];
     let mut colors = [0u16; 512];
@@ -57,9 +59,11 @@ fn exchange_few(
     d: Color,
 ) -> usize
     requires { ⌜ Exchanging (now ends) n (now work) (now table) (node .0) (c .0) (d .0) ⌝ }
-    ensures { λ r. ⌜ r ≡ length (path (now (ends .entry)) (edgeCount (now (ends .entry))) n (now (work .entry)) (node .0) (d .0) (c .0)) ⌝ }
-    ensures { λ _. ⌜ (now (work .exit) ≡ exchange (now (work .entry)) (c .0) (d .0) (path (now (ends .entry)) (edgeCount (now (ends .entry))) n (now (work .entry)) (node .0) (d .0) (c .0)))
-        × TableOf (now (ends .entry)) (edgeCount (now (ends .entry))) (now (work .exit)) (now (table .exit)) ⌝ }
+    ensures answer { λ r. let ends = now (ends .entry) in let work = now (work .entry) in
+        ⌜ r ≡ length (path ends (edgeCount ends) n work (node .0) (d .0) (c .0)) ⌝ }
+    ensures work_and_table { λ _. let work₀ = now (work .entry) in let ends = now (ends .entry) in
+        ⌜ (now (work .exit) ≡ exchange work₀ (c .0) (d .0) (path ends (edgeCount ends) n work₀ (node .0) (d .0) (c .0)))
+        × TableOf ends (edgeCount ends) (now (work .exit)) (now (table .exit)) ⌝ }
 {
     if n < 32 {
         return exchange_edges(n, ends, work, table, node, c, d);
@@ -86,9 +90,11 @@ fn exchange_path(
     d: Color,
 ) -> usize
     requires { ⌜ Exchanging (now ends) n (now work) (now table) (node .0) (c .0) (d .0) ⌝ }
-    ensures { λ r. ⌜ r ≡ length (path (now (ends .entry)) (edgeCount (now (ends .entry))) n (now (work .entry)) (node .0) (d .0) (c .0)) ⌝ }
-    ensures { λ _. ⌜ (now (work .exit) ≡ exchange (now (work .entry)) (c .0) (d .0) (path (now (ends .entry)) (edgeCount (now (ends .entry))) n (now (work .entry)) (node .0) (d .0) (c .0)))
-        × TableOf (now (ends .entry)) (edgeCount (now (ends .entry))) (now (work .exit)) (now (table .exit)) ⌝ }
+    ensures answer { λ r. let ends = now (ends .entry) in let work = now (work .entry) in
+        ⌜ r ≡ length (path ends (edgeCount ends) n work (node .0) (d .0) (c .0)) ⌝ }
+    ensures work_and_table { λ _. let work₀ = now (work .entry) in let ends = now (ends .entry) in
+        ⌜ (now (work .exit) ≡ exchange work₀ (c .0) (d .0) (path ends (edgeCount ends) n work₀ (node .0) (d .0) (c .0)))
+        × TableOf ends (edgeCount ends) (now (work .exit)) (now (table .exit)) ⌝ }
 {
     if is_free(table, node, d) {
         return 0;
@@ -108,8 +114,9 @@ fn rotate_places(
     requires { ⌜ TableOf (now ends) (edgeCount (now ends)) (now work) (now table) ⌝ }
     requires { ⌜ Repaintable (now ends) (edgeCount (now ends)) (now work) (now fan) (rotatedColors (now work) (drop 1 (now fan)) (d .0)) ⌝ }
     requires { ⌜ (1 ≤ length (now fan)) × (length (now fan) ≤ length (now colors)) ⌝ }
-    ensures { λ _. ⌜ (now (work .exit) ≡ store (now (work .entry)) (now (fan .entry)) (rotatedColors (now (work .entry)) (drop 1 (now (fan .entry))) (d .0)))
-        × TableOf (now (ends .entry)) (edgeCount (now (ends .entry))) (now (work .exit)) (now (table .exit)) ⌝ }
+    ensures work_and_table { λ _. let work₀ = now (work .entry) in let fan = now (fan .entry) in let ends = now (ends .entry) in
+        ⌜ (now (work .exit) ≡ store work₀ fan (rotatedColors work₀ (drop 1 fan) (d .0)))
+        × TableOf ends (edgeCount ends) (now (work .exit)) (now (table .exit)) ⌝ }
 {
     let len = fan.len();
     shift_colors(work, fan, d, colors);
@@ -121,8 +128,9 @@ fn rotate_fan(ends: &[u16], work: &mut [u16], table: &mut [u16], fan: &[u16], d:
     requires { ⌜ TableOf (now ends) (edgeCount (now ends)) (now work) (now table) ⌝ }
     requires { ⌜ Repaintable (now ends) (edgeCount (now ends)) (now work) (now fan) (rotatedColors (now work) (drop 1 (now fan)) (d .0)) ⌝ }
     requires { ⌜ (1 ≤ length (now fan)) × (length (now fan) ≤ 512) ⌝ }
-    ensures { λ _. ⌜ (now (work .exit) ≡ store (now (work .entry)) (now (fan .entry)) (rotatedColors (now (work .entry)) (drop 1 (now (fan .entry))) (d .0)))
-        × TableOf (now (ends .entry)) (edgeCount (now (ends .entry))) (now (work .exit)) (now (table .exit)) ⌝ }
+    ensures work_and_table { λ _. let work₀ = now (work .entry) in let fan = now (fan .entry) in let ends = now (ends .entry) in
+        ⌜ (now (work .exit) ≡ store work₀ fan (rotatedColors work₀ (drop 1 fan) (d .0)))
+        × TableOf ends (edgeCount ends) (now (work .exit)) (now (table .exit)) ⌝ }
 {
     if fan.len() == 1 {
         let colors = [d.0; 1];
@@ -150,7 +158,8 @@ fn turn(
     far: NodeIndex,
 ) -> Color
     requires { ⌜ Turning n (now ends) (now work) (now table) (now fan) (edge .0) (node .0) (far .0) ⌝ }
-    ensures { λ r. ⌜ Turned n (now (ends .entry)) (now (work .entry)) (edge .0) (r .0) (now (work .exit)) (now (table .exit)) ⌝ }
+    ensures turned { λ r. let ends = now (ends .entry) in let work₀ = now (work .entry) in
+        ⌜ Turned n ends work₀ (edge .0) (r .0) (now (work .exit)) (now (table .exit)) ⌝ }
 {
     let last = fan.len() - 1;
     let end = far_end(ends, EdgeIndex(fan[last]), node);
@@ -174,7 +183,9 @@ pub(crate) fn step(
     edge: EdgeIndex,
 ) -> Color
     requires { ⌜ Ready n (now ends) (now starts) (now entries) (now work) (now table) (now marks) (edge .0) ⌝ }
-    ensures { λ r. ⌜ Stepped n (now (ends .entry)) (now (starts .entry)) (now (entries .entry)) (now (work .entry)) (now (table .entry)) (now (marks .entry)) (edge .0) (r .0) (now (work .exit)) (now (table .exit)) (now (marks .exit)) ⌝ }
+    ensures stepped { λ r. let ends = now (ends .entry) in let starts = now (starts .entry) in let entries = now (entries .entry) in
+        let work₀ = now (work .entry) in let table₀ = now (table .entry) in let marks₀ = now (marks .entry) in
+        ⌜ Stepped n ends starts entries work₀ table₀ marks₀ (edge .0) (r .0) (now (work .exit)) (now (table .exit)) (now (marks .exit)) ⌝ }
 {
     let k = edge.0 as usize;
     let node = end_at(ends, 2 * k);

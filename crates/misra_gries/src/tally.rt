@@ -16,7 +16,7 @@ pub(crate) struct Tally {
 // One edge more, of this colour.
 pub(crate) fn noted(tally: Tally, color: Color) -> Tally
     requires { ⌜ tally .edges + 1 < 2 ^ 64 ⌝ }
-    ensures { λ r. ⌜ r ≡ notedOf tally (color .0) ⌝ }
+    ensures answer { λ r. ⌜ r ≡ notedOf tally (color .0) ⌝ }
 {
     let edges = tally.edges + 1;
     let greatest = tally.greatest;
@@ -48,8 +48,11 @@ pub(crate) fn step_tallied(
 )
     requires { ⌜ Ready n (now ends) (now starts) (now entries) (now work) (now table) (now marks) (edge .0) ⌝ }
     requires { ⌜ now tally .edges + 1 < 2 ^ 64 ⌝ }
-    ensures { λ _. ⌜ Tallied n (now (ends .entry)) (now (starts .entry)) (now (entries .entry)) (now (work .entry)) (now (table .entry)) (now (marks .entry))
-        (edge .0) (now (tally .entry)) (now (tally .exit)) (now (work .exit)) (now (table .exit)) (now (marks .exit)) ⌝ }
+    ensures tallied { λ _. let ends = now (ends .entry) in let starts = now (starts .entry) in let entries = now (entries .entry) in
+        let work₀ = now (work .entry) in let table₀ = now (table .entry) in let marks₀ = now (marks .entry) in
+        let tally₀ = now (tally .entry) in
+        ⌜ Tallied n ends starts entries work₀ table₀ marks₀
+        (edge .0) tally₀ (now (tally .exit)) (now (work .exit)) (now (table .exit)) (now (marks .exit)) ⌝ }
 {
     let color = step(n, ends, starts, entries, work, table, marks, edge);
     *tally = noted(*tally, color);
@@ -69,7 +72,9 @@ pub(crate) fn step_kept(
 ) -> Tally
     requires { ⌜ Ready n (now ends) (now starts) (now entries) (now work) (now table) (now marks) (edge .0) ⌝ }
     requires { ⌜ tally .edges + 1 < 2 ^ 64 ⌝ }
-    ensures { λ r. ⌜ Tallied n (now (ends .entry)) (now (starts .entry)) (now (entries .entry)) (now (work .entry)) (now (table .entry)) (now (marks .entry))
+    ensures tallied { λ r. let ends = now (ends .entry) in let starts = now (starts .entry) in let entries = now (entries .entry) in
+        let work₀ = now (work .entry) in let table₀ = now (table .entry) in let marks₀ = now (marks .entry) in
+        ⌜ Tallied n ends starts entries work₀ table₀ marks₀
         (edge .0) tally r (now (work .exit)) (now (table .exit)) (now (marks .exit)) ⌝ }
 {
     let mut kept = tally;

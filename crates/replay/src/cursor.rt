@@ -18,7 +18,7 @@ impl Cursor {
 
     // The end counts as a line feed, so that whatever is missing ends like a line.
     fn ended() -> Self
-        ensures { λ r. ⌜ r .left ≡ 0 ⌝ }
+        ensures answer { λ r. ⌜ r .left ≡ 0 ⌝ }
     {
         Cursor {
             byte: b'\n',
@@ -35,7 +35,7 @@ impl Cursor {
 
 // The first of the next bytes.
 fn refilled(buffer: &mut [u8], left: usize) -> Cursor
-    ensures { λ r. ⌜ r .left ≤ left ⌝ }
+    ensures left { λ r. ⌜ r .left ≤ left ⌝ }
 {
     let filled = io::read_full(STDIN_FILENO, buffer);
     if filled == 0 {
@@ -51,7 +51,7 @@ fn refilled(buffer: &mut [u8], left: usize) -> Cursor
 
 // The place after input.
 pub(crate) fn next(buffer: &mut [u8], input: Cursor) -> Cursor
-    ensures { λ r. ⌜ r .left ≤ input .left - 1 ⌝ }
+    ensures left { λ r. ⌜ r .left ≤ input .left - 1 ⌝ }
 {
     let left = input.left;
     if left == 0 {
@@ -75,7 +75,7 @@ pub(crate) fn next(buffer: &mut [u8], input: Cursor) -> Cursor
 
 // The next line's first byte.
 pub(crate) fn skip_line(buffer: &mut [u8], input: Cursor) -> Cursor
-    ensures { λ r. ⌜ r .left ≤ input .left - 1 ⌝ }
+    ensures left { λ r. ⌜ r .left ≤ input .left - 1 ⌝ }
 {
     let mut here = input;
     while here.left > 0 {

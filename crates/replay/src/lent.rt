@@ -6,7 +6,7 @@ ghost use Rattle.replay.specs.Lent.{numberAt, byteAt, Lent};
 
 // As many of list's numbers as are wanted, or all that it has.
 pub(crate) fn cut(wanted: usize, list: &[u16]) -> usize
-    ensures { λ r. ⌜ Counts r (now (list .entry)) ⌝ }
+    ensures counts { λ r. ⌜ Counts r (now (list .entry)) ⌝ }
 {
     if wanted < list.len() {
         wanted
@@ -17,7 +17,7 @@ pub(crate) fn cut(wanted: usize, list: &[u16]) -> usize
 
 // The same of bytes.
 pub(crate) fn cut_bytes(wanted: usize, bytes: &[u8]) -> usize
-    ensures { λ r. ⌜ Counts r (now (bytes .entry)) ⌝ }
+    ensures counts { λ r. ⌜ Counts r (now (bytes .entry)) ⌝ }
 {
     if wanted < bytes.len() {
         wanted
@@ -28,7 +28,7 @@ pub(crate) fn cut_bytes(wanted: usize, bytes: &[u8]) -> usize
 
 // One number more than `before`, or all that list has: the starts of a table with so many nodes.
 pub(crate) fn cut_after(before: usize, list: &[u16]) -> usize
-    ensures { λ r. ⌜ Counts r (now (list .entry)) ⌝ }
+    ensures counts { λ r. ⌜ Counts r (now (list .entry)) ⌝ }
 {
     if before < list.len() {
         before + 1
@@ -39,19 +39,19 @@ pub(crate) fn cut_after(before: usize, list: &[u16]) -> usize
 
 // What stands at a place before the call: unlike its neighbours and what a call writes, so that a place that was written shows.
 fn number_at(i: usize) -> u16
-    ensures { λ r. ⌜ r ≡ numberAt i ⌝ }
+    ensures answer { λ r. ⌜ r ≡ numberAt i ⌝ }
 {
     (60000 + i % 5000) as u16
 }
 
 fn byte_at(i: usize) -> u8
-    ensures { λ r. ⌜ r ≡ byteAt i ⌝ }
+    ensures answer { λ r. ⌜ r ≡ byteAt i ⌝ }
 {
     (100 + i % 100) as u8
 }
 
 pub(crate) fn lend(list: &mut [u16])
-    ensures { λ _. ⌜ Lent numberAt (now (list .exit)) ⌝ }
+    ensures lent { λ _. ⌜ Lent numberAt (now (list .exit)) ⌝ }
 {
     let mut i = 0;
     while i < list.len() {
@@ -61,7 +61,7 @@ pub(crate) fn lend(list: &mut [u16])
 }
 
 pub(crate) fn lend_bytes(bytes: &mut [u8])
-    ensures { λ _. ⌜ Lent byteAt (now (bytes .exit)) ⌝ }
+    ensures lent { λ _. ⌜ Lent byteAt (now (bytes .exit)) ⌝ }
 {
     let mut i = 0;
     while i < bytes.len() {
@@ -71,7 +71,7 @@ pub(crate) fn lend_bytes(bytes: &mut [u8])
 }
 
 pub(crate) fn unchanged(list: &[u16]) -> bool
-    ensures { λ r. ⌜ (r ≡ true → Lent numberAt (now (list .entry))) × (Lent numberAt (now (list .entry)) → r ≡ true) ⌝ }
+    ensures answer { λ r. let list = now (list .entry) in ⌜ (r ≡ true → Lent numberAt list) × (Lent numberAt list → r ≡ true) ⌝ }
 {
     let mut i = 0;
     while i < list.len() {
@@ -84,7 +84,7 @@ pub(crate) fn unchanged(list: &[u16]) -> bool
 }
 
 pub(crate) fn unchanged_bytes(bytes: &[u8]) -> bool
-    ensures { λ r. ⌜ (r ≡ true → Lent byteAt (now (bytes .entry))) × (Lent byteAt (now (bytes .entry)) → r ≡ true) ⌝ }
+    ensures answer { λ r. let bytes = now (bytes .entry) in ⌜ (r ≡ true → Lent byteAt bytes) × (Lent byteAt bytes → r ≡ true) ⌝ }
 {
     let mut i = 0;
     while i < bytes.len() {

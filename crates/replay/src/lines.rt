@@ -63,7 +63,7 @@ impl Sizes {
 
 // graph N L e1 .. eL
 fn read_graph(buffer: &mut [u8], input: Cursor, ends: &mut [u16]) -> Line
-    ensures { λ r. ⌜ r .next .left ≤ input .left - 1 ⌝ }
+    ensures left { λ r. ⌜ r .next .left ≤ input .left - 1 ⌝ }
 {
     let nodes = read_number(buffer, input);
     let from = nodes.input;
@@ -81,7 +81,7 @@ fn read_graph(buffer: &mut [u8], input: Cursor, ends: &mut [u16]) -> Line
 
 // presets L p1 .. pL
 fn read_presets(buffer: &mut [u8], input: Cursor, presets: &mut [u16]) -> Line
-    ensures { λ r. ⌜ r .next .left ≤ input .left - 1 ⌝ }
+    ensures left { λ r. ⌜ r .next .left ≤ input .left - 1 ⌝ }
 {
     let list = read_list(buffer, input, presets);
     let rest = list.input;
@@ -97,7 +97,7 @@ fn read_presets(buffer: &mut [u8], input: Cursor, presets: &mut [u16]) -> Line
 
 // file L b1 .. bL
 fn read_file(buffer: &mut [u8], input: Cursor, file: &mut [u8]) -> Line
-    ensures { λ r. ⌜ r .next .left ≤ input .left - 1 ⌝ }
+    ensures left { λ r. ⌜ r .next .left ≤ input .left - 1 ⌝ }
 {
     let bytes = read_bytes(buffer, input, file);
     let rest = bytes.input;
@@ -113,7 +113,7 @@ fn read_file(buffer: &mut [u8], input: Cursor, file: &mut [u8]) -> Line
 
 // edges_at V S s1 .. sS E e1 .. eE
 fn read_table(buffer: &mut [u8], input: Cursor, starts: &mut [u16], entries: &mut [u16]) -> Line
-    ensures { λ r. ⌜ r .next .left ≤ input .left - 1 ⌝ }
+    ensures left { λ r. ⌜ r .next .left ≤ input .left - 1 ⌝ }
 {
     let node = read_number(buffer, input);
     let from = node.input;
@@ -133,7 +133,7 @@ fn read_table(buffer: &mut [u8], input: Cursor, starts: &mut [u16], entries: &mu
 
 // A call's name and at most two numbers; a name that is unknown reads the same.
 fn read_call(buffer: &mut [u8], input: Cursor, name: Name) -> Line
-    ensures { λ r. ⌜ r .next .left ≤ input .left - 1 ⌝ }
+    ensures left { λ r. ⌜ r .next .left ≤ input .left - 1 ⌝ }
 {
     let first = read_number(buffer, input);
     let from = first.input;
@@ -158,7 +158,7 @@ pub(crate) fn read_line(
     entries: &mut [u16],
     file: &mut [u8],
 ) -> Line
-    ensures { λ r. ⌜ r .next .left ≤ input .left - 1 ⌝ }
+    ensures left { λ r. ⌜ r .next .left ≤ input .left - 1 ⌝ }
 {
     let read = read_name(buffer, input);
     let name = read.name;

@@ -32,7 +32,7 @@ pub struct NameRead {
 }
 
 fn same(word: &[u8], name: &[u8]) -> bool
-    ensures { λ r. ⌜ (r ≡ true → now (word .entry) ≡ now (name .entry)) × (now (word .entry) ≡ now (name .entry) → r ≡ true) ⌝ }
+    ensures answer { λ r. let word = now (word .entry) in let name = now (name .entry) in ⌜ (r ≡ true → word ≡ name) × (word ≡ name → r ≡ true) ⌝ }
 {
     if word.len() != name.len() {
         return false;
@@ -101,7 +101,7 @@ fn name_of(word: &[u8]) -> Name {
 
 // The line's first word.
 pub(crate) fn read_name(buffer: &mut [u8], input: Cursor) -> NameRead
-    ensures { λ r. ⌜ r .input .left ≤ input .left ⌝ }
+    ensures left { λ r. ⌜ r .input .left ≤ input .left ⌝ }
 {
     let mut word = [0u8; 64];
     let read = read_word(buffer, input, &mut word);

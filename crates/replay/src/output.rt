@@ -15,8 +15,9 @@ pub(crate) fn flush(text: &[u8], waiting: usize) {
 
 // A full buffer is written first.
 pub(crate) fn put(text: &mut [u8], waiting: usize, byte: u8) -> usize
-    ensures { λ r. ⌜ (waiting < length (now (text .entry)) → (r ≡ waiting + 1) × (now (text .exit) ≡ set (now (text .entry)) waiting byte)) ⌝ }
-    ensures { λ r. ⌜ r ≤ length (now (text .exit)) ⌝ }
+    ensures answer { λ r. let text₀ = now (text .entry) in
+        ⌜ (waiting < length text₀ → (r ≡ waiting + 1) × (now (text .exit) ≡ set text₀ waiting byte)) ⌝ }
+    ensures bound { λ r. ⌜ r ≤ length (now (text .exit)) ⌝ }
 {
     if waiting < text.len() {
         text[waiting] = byte;

@@ -34,7 +34,8 @@ pub(crate) fn start(
 )
     requires { ⌜ Tabled kind n (now ends) (now starts) (now entries) (length (now colors)) ⌝ }
     requires { ⌜ length (now colors) ≤ length (now waiting) ⌝ }
-    ensures { λ _. ⌜ Started (neighborsOf kind n (now (ends .entry))) (length (now (colors .entry))) (now (colors .exit)) (now (waiting .exit)) ⌝ }
+    ensures started { λ _. let ends = now (ends .entry) in let colors₀ = now (colors .entry) in
+        ⌜ Started (neighborsOf kind n ends) (length colors₀) (now (colors .exit)) (now (waiting .exit)) ⌝ }
 {
     let mut v = 0;
     while v < colors.len() {
@@ -55,7 +56,9 @@ fn note(
 )
     requires { ⌜ (item .0 < length (now colors)) × (item .0 < length (now saturations)) × (item .0 < length (now waiting)) × (item .0 < length (now marks)) ⌝ }
     requires { ⌜ (getD (now colors) (item .0) 0 ≡ noColor → (0 < getD (now waiting) (item .0) 0) × (getD (now marks) (item .0) 0 ≡ 0 → getD (now saturations) (item .0) 0 < 65535)) ⌝ }
-    ensures { λ _. ⌜ Noted (now (colors .entry)) (item .0 ∷ []) (now (saturations .entry)) (now (waiting .entry)) (now (marks .entry)) (now (saturations .exit)) (now (waiting .exit)) (now (marks .exit)) ⌝ }
+    ensures noted { λ _. let colors = now (colors .entry) in let saturations₀ = now (saturations .entry) in let waiting₀ = now (waiting .entry) in
+        let marks₀ = now (marks .entry) in
+        ⌜ Noted colors (item .0 ∷ []) saturations₀ waiting₀ marks₀ (now (saturations .exit)) (now (waiting .exit)) (now (marks .exit)) ⌝ }
 {
     let w = item.0 as usize;
     if colors[w] != Color::NONE {
@@ -82,7 +85,9 @@ fn note_all(
     requires { ⌜ ((i : ℕ) → i < length (now edges) → acrossOf kind (now ends) (getD (now edges) i 0) (node .0) < length (now colors)) ⌝ }
     requires { ⌜ Room (now colors) (acrossAll kind (now ends) (node .0) (now edges)) (now saturations) (now waiting) (now marks) ⌝ }
     requires { ⌜ (length (now colors) ≤ length (now saturations)) × (length (now colors) ≤ length (now waiting)) × (length (now colors) ≤ length (now marks)) ⌝ }
-    ensures { λ _. ⌜ Noted (now (colors .entry)) (acrossAll kind (now (ends .entry)) (node .0) (now (edges .entry))) (now (saturations .entry)) (now (waiting .entry)) (now (marks .entry)) (now (saturations .exit)) (now (waiting .exit)) (now (marks .exit)) ⌝ }
+    ensures noted { λ _. let colors = now (colors .entry) in let ends = now (ends .entry) in let edges = now (edges .entry) in
+        let saturations₀ = now (saturations .entry) in let waiting₀ = now (waiting .entry) in let marks₀ = now (marks .entry) in
+        ⌜ Noted colors (acrossAll kind ends (node .0) edges) saturations₀ waiting₀ marks₀ (now (saturations .exit)) (now (waiting .exit)) (now (marks .exit)) ⌝ }
 {
     let mut i = 0;
     while i < edges.len() {
@@ -109,7 +114,10 @@ fn note_neighbors(
     requires { ⌜ item .0 < length (now colors) ⌝ }
     requires { ⌜ Room (now colors) (around kind (now ends) (now starts) (now entries) (item .0)) (now saturations) (now waiting) (now marks) ⌝ }
     requires { ⌜ (length (now colors) ≤ length (now saturations)) × (length (now colors) ≤ length (now waiting)) × (length (now colors) ≤ length (now marks)) ⌝ }
-    ensures { λ _. ⌜ Noted (now (colors .entry)) (around kind (now (ends .entry)) (now (starts .entry)) (now (entries .entry)) (item .0)) (now (saturations .entry)) (now (waiting .entry)) (now (marks .entry)) (now (saturations .exit)) (now (waiting .exit)) (now (marks .exit)) ⌝ }
+    ensures noted { λ _. let colors = now (colors .entry) in let ends = now (ends .entry) in let starts = now (starts .entry) in
+        let entries = now (entries .entry) in let saturations₀ = now (saturations .entry) in let waiting₀ = now (waiting .entry) in
+        let marks₀ = now (marks .entry) in
+        ⌜ Noted colors (around kind ends starts entries (item .0)) saturations₀ waiting₀ marks₀ (now (saturations .exit)) (now (waiting .exit)) (now (marks .exit)) ⌝ }
 {
     let first = first_node(kind, ends, item);
     let second = second_node(kind, ends, item);
@@ -156,8 +164,9 @@ fn note_color(
     requires { ⌜ Ready kind n (now ends) (now starts) (now entries) (now colors) (now saturations) (now waiting) ⌝ }
     requires { ⌜ (item .0 < length (now colors)) × (colorOf (now colors) (item .0) ≡ noColor) ⌝ }
     requires { ⌜ (color .0 ≡ noColor → ⊥) ⌝ }
-    ensures { λ _. ⌜ now (colors .exit) ≡ set (now (colors .entry)) (item .0) (color .0) ⌝ }
-    ensures { λ _. ⌜ Ready kind n (now (ends .entry)) (now (starts .entry)) (now (entries .entry)) (now (colors .exit)) (now (saturations .exit)) (now (waiting .exit)) ⌝ }
+    ensures colors { λ _. ⌜ now (colors .exit) ≡ set (now (colors .entry)) (item .0) (color .0) ⌝ }
+    ensures ready { λ _. let ends = now (ends .entry) in let starts = now (starts .entry) in let entries = now (entries .entry) in
+        ⌜ Ready kind n ends starts entries (now (colors .exit)) (now (saturations .exit)) (now (waiting .exit)) ⌝ }
 {
     let mut marks = [0u8; 4096];
     mark_used(kind, ends, starts, entries, colors, color, &mut marks, item);
@@ -194,8 +203,9 @@ pub(crate) fn take_color(
 )
     requires { ⌜ Ready kind n (now ends) (now starts) (now entries) (now colors) (now saturations) (now waiting) ⌝ }
     requires { ⌜ (item .0 < length (now colors)) × (colorOf (now colors) (item .0) ≡ noColor) ⌝ }
-    ensures { λ _. ⌜ now (colors .exit) ≡ set (now (colors .entry)) (item .0) (color .0) ⌝ }
-    ensures { λ _. ⌜ Ready kind n (now (ends .entry)) (now (starts .entry)) (now (entries .entry)) (now (colors .exit)) (now (saturations .exit)) (now (waiting .exit)) ⌝ }
+    ensures colors { λ _. ⌜ now (colors .exit) ≡ set (now (colors .entry)) (item .0) (color .0) ⌝ }
+    ensures ready { λ _. let ends = now (ends .entry) in let starts = now (starts .entry) in let entries = now (entries .entry) in
+        ⌜ Ready kind n ends starts entries (now (colors .exit)) (now (saturations .exit)) (now (waiting .exit)) ⌝ }
 {
     if color.0 == Color::NONE {
         return;

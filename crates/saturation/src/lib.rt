@@ -21,8 +21,9 @@ mod turns;
 fn color_checked(kind: Kind, n: usize, ends: &[u16], presets: &[u16], colors: &mut [u16]) -> usize
     requires { ⌜ Passed n (now ends) ⌝ }
     requires { ⌜ (length (now presets) ≡ itemsOf kind n (now ends)) × (length (now colors) ≡ itemsOf kind n (now ends)) ⌝ }
-    ensures { λ r. ⌜ r ≡ daysOf (now (colors .exit)) ⌝ }
-    ensures { λ _. ⌜ now (colors .exit) ≡ saturationColors (neighborsOf kind n (now (ends .entry))) (itemsOf kind n (now (ends .entry))) (now (presets .entry)) ⌝ }
+    ensures answer { λ r. ⌜ r ≡ daysOf (now (colors .exit)) ⌝ }
+    ensures colors { λ _. let ends = now (ends .entry) in let presets = now (presets .entry) in
+        ⌜ now (colors .exit) ≡ saturationColors (neighborsOf kind n ends) (itemsOf kind n ends) presets ⌝ }
 {
     let mut starts = [0u16; 513];
     let mut entries = [0u16; 8192];
@@ -46,8 +47,10 @@ fn color_checked(kind: Kind, n: usize, ends: &[u16], presets: &[u16], colors: &m
 // Presets are set first; then the item with the most different colours on its neighbours is next, among these the one with the most
 // uncoloured neighbours, among these the lowest. It takes the smallest colour that no neighbour has.
 pub fn color(kind: Kind, n: usize, ends: &[u16], presets: &[u16], colors: &mut [u16]) -> Coloring
-    ensures { λ r. ⌜ reportOfColoring r ≡ greedyOf kind saturationColors n (now (ends .entry)) (now (presets .entry)) (now (colors .entry)) .report ⌝ }
-    ensures { λ _. ⌜ now (colors .exit) ≡ greedyOf kind saturationColors n (now (ends .entry)) (now (presets .entry)) (now (colors .entry)) .colors ⌝ }
+    ensures report { λ r. let ends = now (ends .entry) in let presets = now (presets .entry) in let colors = now (colors .entry) in
+        ⌜ reportOfColoring r ≡ greedyOf kind saturationColors n ends presets colors .report ⌝ }
+    ensures colors { λ _. let ends = now (ends .entry) in let presets = now (presets .entry) in let colors₀ = now (colors .entry) in
+        ⌜ now (colors .exit) ≡ greedyOf kind saturationColors n ends presets colors₀ .colors ⌝ }
 {
     match check_items(kind, n, ends, presets.len(), colors.len()) {
         Checked::Refused(refusal) => {

@@ -25,7 +25,7 @@ pub enum Choice {
 // The greatest of the first `n` counts.
 fn greatest(counts: &[u16], n: usize) -> u16
     requires { ⌜ n ≤ length (now counts) ⌝ }
-    ensures { λ r. ⌜ Greatest All (now (counts .entry)) n r ⌝ }
+    ensures greatest { λ r. ⌜ Greatest All (now (counts .entry)) n r ⌝ }
 {
     let mut best = 0;
     let mut v = 0;
@@ -41,7 +41,7 @@ fn greatest(counts: &[u16], n: usize) -> u16
 
 // The count of an item that has this saturation, 0 of any other.
 fn count_with(own: u16, saturation: u16, count: u16) -> u16
-    ensures { λ r. ⌜ (own ≡ saturation → r ≡ count) × ((own ≡ saturation → ⊥) → r ≡ 0) ⌝ }
+    ensures answer { λ r. ⌜ (own ≡ saturation → r ≡ count) × ((own ≡ saturation → ⊥) → r ≡ 0) ⌝ }
 {
     if own == saturation { count } else { 0 }
 }
@@ -49,7 +49,8 @@ fn count_with(own: u16, saturation: u16, count: u16) -> u16
 // The greatest waiting count of those of the first `n` items that have this saturation.
 fn greatest_among(saturations: &[u16], saturation: u16, waiting: &[u16], n: usize) -> u16
     requires { ⌜ (n ≤ length (now saturations)) × (n ≤ length (now waiting)) ⌝ }
-    ensures { λ r. ⌜ Greatest (With (now (saturations .entry)) saturation) (now (waiting .entry)) n r ⌝ }
+    ensures greatest { λ r. let saturations = now (saturations .entry) in let waiting = now (waiting .entry) in
+        ⌜ Greatest (With saturations saturation) waiting n r ⌝ }
 {
     let mut best = 0;
     let mut v = 0;
@@ -67,7 +68,8 @@ fn greatest_among(saturations: &[u16], saturation: u16, waiting: &[u16], n: usiz
 fn choose(colors: &[u16], saturations: &[u16], waiting: &[u16]) -> Choice
     requires { ⌜ (length (now colors) ≤ 4096) × (length (now colors) ≤ length (now saturations)) × (length (now colors) ≤ length (now waiting)) ⌝ }
     requires { ⌜ Cleared (now colors) (now saturations) (now waiting) ⌝ }
-    ensures { λ r. ⌜ Chosen (now (colors .entry)) (now (saturations .entry)) (now (waiting .entry)) r ⌝ }
+    ensures chosen { λ r. let colors = now (colors .entry) in let saturations = now (saturations .entry) in let waiting = now (waiting .entry) in
+        ⌜ Chosen colors saturations waiting r ⌝ }
 {
     let most = greatest(saturations, colors.len());
     let longest = greatest_among(saturations, most, waiting, colors.len());
@@ -98,8 +100,10 @@ fn turn(
     waiting: &mut [u16],
 )
     requires { ⌜ Ready kind n (now ends) (now starts) (now entries) (now colors) (now saturations) (now waiting) ⌝ }
-    ensures { λ _. ⌜ now (colors .exit) ≡ turnOf (neighborsOf kind n (now (ends .entry))) (length (now (colors .entry))) (now (colors .entry)) ⌝ }
-    ensures { λ _. ⌜ Ready kind n (now (ends .entry)) (now (starts .entry)) (now (entries .entry)) (now (colors .exit)) (now (saturations .exit)) (now (waiting .exit)) ⌝ }
+    ensures colors { λ _. let ends = now (ends .entry) in let colors₀ = now (colors .entry) in
+        ⌜ now (colors .exit) ≡ turnOf (neighborsOf kind n ends) (length colors₀) colors₀ ⌝ }
+    ensures ready { λ _. let ends = now (ends .entry) in let starts = now (starts .entry) in let entries = now (entries .entry) in
+        ⌜ Ready kind n ends starts entries (now (colors .exit)) (now (saturations .exit)) (now (waiting .exit)) ⌝ }
 {
     match choose(colors, saturations, waiting) {
         Choice::Nothing => {}
@@ -133,7 +137,8 @@ fn take_turns(
     waiting: &mut [u16],
 )
     requires { ⌜ Ready kind n (now ends) (now starts) (now entries) (now colors) (now saturations) (now waiting) ⌝ }
-    ensures { λ _. ⌜ now (colors .exit) ≡ saturationColors (neighborsOf kind n (now (ends .entry))) (length (now (colors .entry))) (now (colors .entry)) ⌝ }
+    ensures colors { λ _. let ends = now (ends .entry) in let colors₀ = now (colors .entry) in
+        ⌜ now (colors .exit) ≡ saturationColors (neighborsOf kind n ends) (length colors₀) colors₀ ⌝ }
 {
     let mut turns = 0;
     while turns < colors.len() {
@@ -156,8 +161,9 @@ fn set_presets(
 )
     requires { ⌜ Ready kind n (now ends) (now starts) (now entries) (now colors) (now saturations) (now waiting) ⌝ }
     requires { ⌜ (length (now colors) ≡ length (now presets)) × Preset (now presets) 0 (now colors) ⌝ }
-    ensures { λ _. ⌜ now (colors .exit) ≡ now (presets .entry) ⌝ }
-    ensures { λ _. ⌜ Ready kind n (now (ends .entry)) (now (starts .entry)) (now (entries .entry)) (now (colors .exit)) (now (saturations .exit)) (now (waiting .exit)) ⌝ }
+    ensures colors { λ _. ⌜ now (colors .exit) ≡ now (presets .entry) ⌝ }
+    ensures ready { λ _. let ends = now (ends .entry) in let starts = now (starts .entry) in let entries = now (entries .entry) in
+        ⌜ Ready kind n ends starts entries (now (colors .exit)) (now (saturations .exit)) (now (waiting .exit)) ⌝ }
 {
     let mut v = 0;
     while v < presets.len() {
@@ -191,7 +197,8 @@ pub(crate) fn run(
 )
     requires { ⌜ Tabled kind n (now ends) (now starts) (now entries) (length (now colors)) ⌝ }
     requires { ⌜ (length (now colors) ≡ length (now presets)) × (now saturations ≡ replicate 4096 0) × (length (now waiting) ≡ 4096) ⌝ }
-    ensures { λ _. ⌜ now (colors .exit) ≡ saturationColors (neighborsOf kind n (now (ends .entry))) (length (now (colors .entry))) (now (presets .entry)) ⌝ }
+    ensures colors { λ _. let ends = now (ends .entry) in let colors₀ = now (colors .entry) in let presets = now (presets .entry) in
+        ⌜ now (colors .exit) ≡ saturationColors (neighborsOf kind n ends) (length colors₀) presets ⌝ }
 {
     start(kind, n, ends, starts, entries, colors, waiting);
     set_presets(

@@ -17,7 +17,7 @@ pub struct Root {
 // Every node by itself.
 fn start(up: &mut [u16])
     requires { ⌜ length (now up) ≤ 512 ⌝ }
-    ensures { λ _. ⌜ ((v : ℕ) → v < length (now (up .entry)) → getD (now (up .exit)) v 0 ≡ v) ⌝ }
+    ensures up { λ _. ⌜ ((v : ℕ) → v < length (now (up .entry)) → getD (now (up .exit)) v 0 ≡ v) ⌝ }
 {
     let mut v = 0;
     while v < up.len() {
@@ -30,7 +30,8 @@ fn start(up: &mut [u16])
 fn root_of(up: &mut [u16], flips: &mut [bool], node: NodeIndex) -> Root
     requires { ⌜ Forest (now up) (now flips) ⌝ }
     requires { ⌜ node .0 < length (now up) ⌝ }
-    ensures { λ r. ⌜ Finds (now (up .entry)) (now (flips .entry)) (node .0) r (now (up .exit)) (now (flips .exit)) ⌝ }
+    ensures finds { λ r. let up₀ = now (up .entry) in let flips₀ = now (flips .entry) in
+        ⌜ Finds up₀ flips₀ (node .0) r (now (up .exit)) (now (flips .exit)) ⌝ }
 {
     let mut x = node.0 as usize;
     let mut odd = false;
@@ -56,7 +57,8 @@ fn root_of(up: &mut [u16], flips: &mut [bool], node: NodeIndex) -> Root
 fn join(up: &mut [u16], flips: &mut [bool], first: NodeIndex, second: NodeIndex) -> bool
     requires { ⌜ Forest (now up) (now flips) ⌝ }
     requires { ⌜ (first .0 < length (now up)) × (second .0 < length (now up)) ⌝ }
-    ensures { λ r. ⌜ Joins (now (up .entry)) (now (flips .entry)) (first .0) (second .0) (now (up .exit)) (now (flips .exit)) r ⌝ }
+    ensures joins { λ r. let up₀ = now (up .entry) in let flips₀ = now (flips .entry) in
+        ⌜ Joins up₀ flips₀ (first .0) (second .0) (now (up .exit)) (now (flips .exit)) r ⌝ }
 {
     let a = root_of(up, flips, first);
     let b = root_of(up, flips, second);
@@ -79,7 +81,7 @@ fn join(up: &mut [u16], flips: &mut [bool], first: NodeIndex, second: NodeIndex)
 fn join_edges(ends: &[u16], up: &mut [u16], flips: &mut [bool]) -> bool
     requires { ⌜ Passed (length (now up)) (now ends) ⌝ }
     requires { ⌜ Joined (now ends) 0 (now up) (now flips) ⌝ }
-    ensures { λ r. ⌜ Taken (now (ends .entry)) (edgeCount (now (ends .entry))) (now (up .exit)) (now (flips .exit)) r ⌝ }
+    ensures taken { λ r. let ends = now (ends .entry) in ⌜ Taken ends (edgeCount ends) (now (up .exit)) (now (flips .exit)) r ⌝ }
 {
     let mut k = 0;
     while k < ends.len() / 2 {
@@ -96,7 +98,7 @@ fn join_edges(ends: &[u16], up: &mut [u16], flips: &mut [bool]) -> bool
 // The other of 0 and 1.
 fn other(side: u16) -> u16
     requires { ⌜ side ≤ 1 ⌝ }
-    ensures { λ r. ⌜ r ≡ 1 - side ⌝ }
+    ensures answer { λ r. ⌜ r ≡ 1 - side ⌝ }
 {
     1 - side
 }
@@ -104,7 +106,7 @@ fn other(side: u16) -> u16
 // The side of a node that hangs under one of this side.
 fn side_under(side: u16, flip: bool) -> u16
     requires { ⌜ side ≤ 1 ⌝ }
-    ensures { λ r. ⌜ r ≡ cond flip (1 - side) side ⌝ }
+    ensures answer { λ r. ⌜ r ≡ cond flip (1 - side) side ⌝ }
 {
     if flip {
         return other(side);
@@ -116,7 +118,8 @@ fn side_under(side: u16, flip: bool) -> u16
 fn write_sides(n: usize, up: &[u16], flips: &[bool], sides: &mut [u16])
     requires { ⌜ Forest (now up) (now flips) ⌝ }
     requires { ⌜ (n ≤ length (now up)) × (n ≤ length (now sides)) ⌝ }
-    ensures { λ _. ⌜ ((low : ℕ → ℕ) (odd : ℕ → Bool) → Holds low odd (now (up .entry)) (now (flips .entry)) → Sided odd n (now (sides .exit))) ⌝ }
+    ensures sides { λ _. let up = now (up .entry) in let flips = now (flips .entry) in
+        ⌜ ((low : ℕ → ℕ) (odd : ℕ → Bool) → Holds low odd up flips → Sided odd n (now (sides .exit))) ⌝ }
 {
     let mut v = 0;
     while v < n {
@@ -140,7 +143,7 @@ pub(crate) fn color_nodes(
 ) -> bool
     requires { ⌜ Passed n (now ends) ⌝ }
     requires { ⌜ (length (now up) ≡ 512) × (now flips ≡ replicate 512 false) × (length (now colors) ≡ 512) ⌝ }
-    ensures { λ r. ⌜ NodesColored (now (ends .entry)) (edgeCount (now (ends .entry))) n r (now (colors .exit)) ⌝ }
+    ensures nodes_colored { λ r. let ends = now (ends .entry) in ⌜ NodesColored ends (edgeCount ends) n r (now (colors .exit)) ⌝ }
 {
     start(up);
     if !join_edges(ends, up, flips) {

@@ -16,7 +16,7 @@ mod components;
 // The colours as bytes.
 fn copy_out(sides: &[u16], colors: &mut [u8])
     requires { ⌜ (length (now colors) ≡ length (now sides)) × ((i : ℕ) → i < length (now sides) → getD (now sides) i 0 ≤ 1) ⌝ }
-    ensures { λ _. ⌜ now (colors .exit) ≡ now (sides .entry) ⌝ }
+    ensures colors { λ _. ⌜ now (colors .exit) ≡ now (sides .entry) ⌝ }
 {
     let mut i = 0;
     while i < sides.len() {
@@ -29,8 +29,10 @@ fn copy_out(sides: &[u16], colors: &mut [u8])
 fn color_checked(n: usize, ends: &[u16], colors: &mut [u8]) -> Coloring
     requires { ⌜ Passed n (now ends) ⌝ }
     requires { ⌜ length (now colors) ≡ n ⌝ }
-    ensures { λ r. ⌜ reportOfColoring r ≡ sidesOutcome n (now (ends .entry)) (now (colors .entry)) .report ⌝ }
-    ensures { λ _. ⌜ now (colors .exit) ≡ sidesOutcome n (now (ends .entry)) (now (colors .entry)) .colors ⌝ }
+    ensures report { λ r. let ends = now (ends .entry) in let colors = now (colors .entry) in
+        ⌜ reportOfColoring r ≡ sidesOutcome n ends colors .report ⌝ }
+    ensures colors { λ _. let ends = now (ends .entry) in let colors₀ = now (colors .entry) in
+        ⌜ now (colors .exit) ≡ sidesOutcome n ends colors₀ .colors ⌝ }
 {
     let mut up = [0u16; 512];
     let mut flips = [false; 512];
@@ -46,9 +48,12 @@ fn color_checked(n: usize, ends: &[u16], colors: &mut [u8]) -> Coloring
 
 // The lowest node of each component gets 1, neighbours get the other of 0 and 1.
 pub fn two_color(n: usize, ends: &[u16], colors: &mut [u8]) -> Coloring
-    ensures { λ r. ⌜ reportOfColoring r ≡ twoColor n (now (ends .entry)) (now (colors .entry)) .report ⌝ }
-    ensures { λ _. ⌜ now (colors .exit) ≡ twoColor n (now (ends .entry)) (now (colors .entry)) .colors ⌝ }
-    ensures bipartition { λ r. ⌜ Bipartition n (now (ends .entry)) (now (colors .entry)) (reportOfColoring r) (now (colors .exit)) ⌝ }
+    ensures report { λ r. let ends = now (ends .entry) in let colors = now (colors .entry) in
+        ⌜ reportOfColoring r ≡ twoColor n ends colors .report ⌝ }
+    ensures colors { λ _. let ends = now (ends .entry) in let colors₀ = now (colors .entry) in
+        ⌜ now (colors .exit) ≡ twoColor n ends colors₀ .colors ⌝ }
+    ensures bipartition { λ r. let ends = now (ends .entry) in let colors₀ = now (colors .entry) in
+        ⌜ Bipartition n ends colors₀ (reportOfColoring r) (now (colors .exit)) ⌝ }
 {
     match check_graph(n, ends) {
         Checked::Refused(refusal) => {
