@@ -9,7 +9,7 @@ ghost use Rattle.graph.specs.Color.{daysOf};
 ghost use Rattle.greedy.specs.Degree.{colorInOrder, degreeColors};
 ghost use Rattle.items.specs.declared.Kind.the-variants.{Nodes, Edges};
 ghost use Rattle.items.specs.Items.{itemsOf, neighborsOf, greedyOf, Tabled};
-ghost use Rattle.degree.specs.ColorLaws.{Waiting, Room};
+ghost use Rattle.degree.specs.Color.{Waiting, Room};
 use graph::Checked;
 use graph::Coloring;
 use graph::NodeIndex;

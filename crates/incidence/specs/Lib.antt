@@ -1,3 +1,3 @@
--- The incidence table's code: stretches filled from the back, one law for each answer, and the table at the front of longer slices.
+-- The incidence table's code: stretches filled from the back, and the table at the front of longer slices.
 pub mod Front
 pub mod Fill

@@ -1,4 +1,4 @@
--- The list of uncoloured items as the code holds it, and what taking out and putting off do to it.
+-- The list of uncoloured items as the code holds it.
 use Prim.Native.Nat.{ℕ, _+_, _≤_, _<_}
 use mathlib.Core.Path.{_≡_}
 use mathlib.Core.Logic.{_≢_}

@@ -1,4 +1,4 @@
--- Laws of the pairs as the code counts and writes them.
+-- The pairs of the nodes below one, as the code writes them.
 use Prim.Native.Nat.{ℕ, zero, suc}
 use mathlib.Core.List.{List, [], _++_}
 use Rattle.graph.specs.Stretch.{stretch}

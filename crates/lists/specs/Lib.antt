@@ -1,4 +1,4 @@
--- The theory of lists of native numbers: tests, membership, searching, parts.
+-- Lists of numbers: membership, searching, parts.
 pub mod Member
 pub mod Search
 pub mod Parts

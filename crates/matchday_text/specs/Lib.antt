@@ -1,4 +1,4 @@
--- What is printed, and the laws by which the code prints it.
+-- What is printed.
 pub mod Text
 pub mod Put
 pub mod Examples

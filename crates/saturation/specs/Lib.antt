@@ -1,8 +1,6 @@
 -- Strategy Saturation with counts that are kept up to date.
 pub mod Counts
 pub mod Notes
-pub mod Around
-pub mod Known
 pub mod Taken
 pub mod Start
 pub mod Choice

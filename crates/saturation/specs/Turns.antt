@@ -1,61 +1,10 @@
 -- One turn after the other.
-use Prim.Native.Nat.{ℕ, zero, suc, _+_, _-_, _≤_, _<_}
-use mathlib.Core.Path.{_≡_, refl, sym, ap, _∙_}
+use Prim.Native.Nat.{ℕ}
 use mathlib.Core.List.{List, [], _∷_}
-use native.Mathlib.Omega.{arith}
-use lib.ListN.{set}
-use Rattle.graph.specs.Colored.{smallestFreeAt}
 use Rattle.greedy.specs.Turn.{uncolored, colorItem}
-use Rattle.greedy.specs.Saturation.{greatest, saturationFrom, saturationColors}
-use Rattle.saturation.specs.Counts.{Counted}
-use Rattle.saturation.specs.Choice.{Leads, leads-chosen}
+use Rattle.greedy.specs.Saturation.{greatest}
 
 module _ (nb : ℕ → List ℕ) (n : ℕ) where
   -- One turn, which changes nothing where every item has a colour.
   unfoldable pub turnOf : List ℕ → List ℕ
   turnOf colors = elim (uncolored colors n) [ [] ↦ colors | v ∷ vs ↦ colorItem nb colors (greatest nb colors v vs) ]
-
-  pub turn-none : (colors : List ℕ) → uncolored colors n ≡ [] → colors ≡ turnOf colors
-  unfolding turnOf
-  turn-none colors e = rw (turnOf, e)
-
-  pub turn-chosen : (colors colors′ saturations waiting : List ℕ) (best c : ℕ) → Counted nb n colors saturations waiting → Leads saturations waiting colors n best → c ≡ smallestFreeAt colors (nb best)
-      → colors′ ≡ set colors best c → colors′ ≡ turnOf colors
-  unfolding turnOf colorItem
-  turn-chosen colors colors′ saturations waiting best c counted l e p = p ∙ rw (turnOf, l .candidates, sym (leads-chosen nb n colors saturations waiting counted best l), e)
-
-  -- Where every item has a colour the run is over.
-  over : (turns : ℕ) (colors : List ℕ) → uncolored colors n ≡ [] → saturationFrom nb n turns colors ≡ colors
-  unfolding saturationFrom
-  over zero colors e = refl
-  over (suc turns) colors e = rw (saturationFrom, e)
-
-  -- A run that goes on from a turn has one turn more.
-  from-turn : (turns : ℕ) (colors : List ℕ) → saturationFrom nb n turns (turnOf colors) ≡ saturationFrom nb n (suc turns) colors
-  unfolding saturationFrom turnOf
-  from-turn turns colors = go (uncolored colors n) refl
-    where
-      go : (us : List ℕ) → uncolored colors n ≡ us → saturationFrom nb n turns (turnOf colors) ≡ saturationFrom nb n (suc turns) colors
-      go [] e = rw (turnOf, saturationFrom, e) (over turns colors e)
-      go (u ∷ us) e = rw (turnOf, saturationFrom, e)
-
-  -- The turns that are left lead from the colours of now to the answer.
-  pub turns-none : (presets : List ℕ) → saturationFrom nb n (n - 0) presets ≡ saturationColors nb n presets
-  unfolding saturationColors
-  turns-none presets = let e : n - 0 ≡ n = omega arith in rw e
-
-  pub turns-more : (presets colors colors′ : List ℕ) (turns : ℕ) → saturationFrom nb n (n - turns) colors ≡ saturationColors nb n presets → turns < n → colors′ ≡ turnOf colors
-      → saturationFrom nb n (n - (turns + 1)) colors′ ≡ saturationColors nb n presets
-  turns-more presets colors colors′ turns e h p = let z : n - turns ≡ suc (n - (turns + 1)) = omega arith in rw p (from-turn (n - (turns + 1)) colors ∙ (rw z at e))
-
-  pub turns-all : (presets colors : List ℕ) (turns : ℕ) → saturationFrom nb n (n - turns) colors ≡ saturationColors nb n presets → n ≤ turns → colors ≡ saturationColors nb n presets
-  unfolding saturationFrom
-  turns-all presets colors turns e h = let z : n - turns ≡ 0 = omega arith in rw z at e
-
--- The code has n as the length of the slice.
-pub turn-size : (nb : ℕ → List ℕ) (k n : ℕ) (colors colors′ : List ℕ) → colors′ ≡ turnOf nb k colors → k ≡ n → colors′ ≡ turnOf nb n colors
-turn-size nb k n colors colors′ p e = rw e at p
-
--- The turns start from the presets.
-pub from-presets : (nb : ℕ → List ℕ) (k n : ℕ) (presets colors answer : List ℕ) → answer ≡ saturationColors nb k colors → colors ≡ presets → k ≡ n → answer ≡ saturationColors nb n presets
-from-presets nb k n presets colors answer p e q = p ∙ (ap (saturationColors nb k) e ∙ ap (λ (i : ℕ). saturationColors nb i presets) q)

@@ -1,4 +1,4 @@
--- The graph checks and then those for loops and double edges: one law for each answer, and what the answer tells a caller.
+-- The graph checks and then those for loops and double edges.
 use Prim.Native.Nat.{ℕ}
 use mathlib.Core.List.{List, _++_}
 use Rattle.graph.specs.Report.{Report}

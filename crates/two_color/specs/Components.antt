@@ -1,4 +1,4 @@
--- Components as trees: each node hangs under a lower one of its component, or is the lowest itself. What the functions over them do, and the laws that their proofs cite.
+-- Components as trees: each node hangs under a lower one of its component, or is the lowest itself. What the functions over them hold.
 use Prim.Native.Nat.{ℕ, _+_, _≤_, _<_}
 use mathlib.Core.Path.{_≡_}
 use mathlib.Core.List.{List}

@@ -1,4 +1,4 @@
--- Graphs as an incidence relation, free colours, proper colourings, and a proper colouring of which one edge changes.
+-- Free colours and proper colourings.
 use Prim.Native.Nat.{ℕ}
 use mathlib.Core.Path.{_≡_}
 use mathlib.Core.Logic.{_≢_}

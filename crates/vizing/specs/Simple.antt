@@ -1,4 +1,4 @@
--- Graphs without loops and double edges, and the two tests of the call that tell.
+-- Graphs without loops and double edges.
 use Prim.Native.Nat.{ℕ, _<_}
 use mathlib.Core.Path.{_≡_}
 use mathlib.Core.Logic.{_⊎_, _≢_}

@@ -1,4 +1,4 @@
--- One step from any list that meets the invariant: what its parts are, and that the next list meets the invariant.
+-- What holds of the working list before and after each step.
 use Prim.Native.Nat.{ℕ, _≤_, _<_}
 use mathlib.Core.Path.{_≡_}
 use mathlib.Core.List.{List}

@@ -3,8 +3,8 @@ use mathlib.Core.Path.{sym, _∙_}
 use native.Mathlib.Omega.{arith}
 use lib.Seq.{length-take-le}
 use borrow.Author.Needs.{needs}
-use Rattle.items.specs.Items.{items-tabled}
-use Rattle.degree.specs.ColorLaws.{degrees-countable, order-found, order-waits, degree-colored}
+use Rattle.items.proofs.ItemsLaws.{items-tabled}
+use Rattle.degree.proofs.ColorLaws.{degrees-countable, order-found, order-waits, degree-colored}
 use Rattle.degree.proofs.color_checked.Statement.{statement}
 use Rattle.degree.proofs.color_checked.Tie as tie
 

@@ -1,6 +1,6 @@
 -- `color_checked_edges` meets its contract: the lists have room for the edges.
 use borrow.Author.Needs.{needs}
-use Rattle.degree.specs.ColorLaws.{edges-room}
+use Rattle.degree.proofs.ColorLaws.{edges-room}
 use Rattle.degree.proofs.color_checked_edges.Statement.{statement}
 use Rattle.degree.proofs.color_checked_edges.Tie as tie
 

@@ -1,6 +1,6 @@
 -- `color_checked_nodes` meets its contract: the lists have room for the nodes.
 use borrow.Author.Needs.{needs}
-use Rattle.degree.specs.ColorLaws.{nodes-room}
+use Rattle.degree.proofs.ColorLaws.{nodes-room}
 use Rattle.degree.proofs.color_checked_nodes.Statement.{statement}
 use Rattle.degree.proofs.color_checked_nodes.Tie as tie
 

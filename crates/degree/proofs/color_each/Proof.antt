@@ -6,7 +6,8 @@ use lib.ListN.{length, drop, length-set}
 use borrow.Author.Needs.{needs}
 use Rattle.greedy.specs.Degree.{colorInOrder}
 use Rattle.items.specs.Items.{neighborsOf}
-use Rattle.degree.specs.ColorLaws.{Waiting, waiting-inside, waiting-next, item-turn, turns-done}
+use Rattle.degree.specs.Color.{Waiting}
+use Rattle.degree.proofs.ColorLaws.{waiting-inside, waiting-next, item-turn, turns-done}
 use Rattle.degree.proofs.color_each.Statement.{statement}
 use Rattle.degree.proofs.color_each.Tie as tie
 

@@ -1,6 +1,6 @@
 -- `color_in_order` meets its contract: each arm's kind is the one met.
 use borrow.Author.Needs.{needs}
-use Rattle.degree.specs.ColorLaws.{kind-tabled, kind-turns}
+use Rattle.degree.proofs.ColorLaws.{kind-tabled, kind-turns}
 use Rattle.degree.proofs.color_in_order.Statement.{statement}
 use Rattle.degree.proofs.color_in_order.Tie as tie
 

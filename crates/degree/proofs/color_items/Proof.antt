@@ -1,6 +1,6 @@
 -- `color_items` meets its contract: each arm's kind is the one met.
 use borrow.Author.Needs.{needs}
-use Rattle.degree.specs.ColorLaws.{kind-sizes, kind-colored}
+use Rattle.degree.proofs.ColorLaws.{kind-sizes, kind-colored}
 use Rattle.degree.proofs.color_items.Statement.{statement}
 use Rattle.degree.proofs.color_items.Tie as tie
 

@@ -4,8 +4,9 @@ use mathlib.Core.Path.{_≡_, _∙_}
 use native.Mathlib.Omega.{arith}
 use lib.ListN.{length, getD, length-set}
 use borrow.Author.Needs.{needs}
-use Rattle.items.specs.Items.{neighborsOf, items-few, neighbors-few, neighbors-counted}
-use Rattle.degree.specs.ColorLaws.{degrees-next}
+use Rattle.items.specs.Items.{neighborsOf}
+use Rattle.items.proofs.ItemsLaws.{items-few, neighbors-few, neighbors-counted}
+use Rattle.degree.proofs.ColorLaws.{degrees-next}
 use Rattle.degree.proofs.note_degrees.Statement.{statement}
 use Rattle.degree.proofs.note_degrees.Tie as tie
 

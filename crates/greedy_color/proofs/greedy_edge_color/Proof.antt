@@ -4,7 +4,7 @@ use native.Mathlib.Omega.{arith}
 use lib.ListN.{length}
 use borrow.Author.Needs.{needs}
 use Rattle.lists.proofs.PartsLaws.{take-replicate}
-use Rattle.greedy_color.specs.Rules.{presets-part, edges-without-presets}
+use Rattle.greedy_color.proofs.Rules.{presets-part, edges-without-presets}
 use Rattle.greedy_color.proofs.greedy_edge_color.Statement.{statement}
 use Rattle.greedy_color.proofs.greedy_edge_color.Tie as tie
 

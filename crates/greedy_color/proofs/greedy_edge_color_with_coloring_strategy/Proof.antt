@@ -2,7 +2,7 @@
 use borrow.Author.Needs.{needs}
 use Rattle.greedy.proofs.SaturationLaws.{saturation-greedy}
 use Rattle.greedy.specs.declared.ColoringStrategy.the-variants as S
-use Rattle.greedy_color.specs.Rules.{degree-greedy, independent-set-rule, edges-by-strategy}
+use Rattle.greedy_color.proofs.Rules.{degree-greedy, independent-set-rule, edges-by-strategy}
 use Rattle.greedy_color.proofs.greedy_edge_color_with_coloring_strategy.Statement.{statement}
 use Rattle.greedy_color.proofs.greedy_edge_color_with_coloring_strategy.Tie as tie
 

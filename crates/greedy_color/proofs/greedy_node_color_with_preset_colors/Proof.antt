@@ -1,7 +1,7 @@
 -- `greedy_node_color_with_preset_colors` meets its contract; the callers' clauses follow from the outcome.
 use borrow.Author.Needs.{needs}
 use Rattle.greedy.specs.Degree.{degreeColors}
-use Rattle.greedy_color.specs.Rules.{degree-greedy, with-presets}
+use Rattle.greedy_color.proofs.Rules.{degree-greedy, with-presets}
 use Rattle.greedy_color.proofs.greedy_node_color_with_preset_colors.Statement.{statement}
 use Rattle.greedy_color.proofs.greedy_node_color_with_preset_colors.Tie as tie
 

@@ -1,6 +1,6 @@
 -- `across` meets its contract: the far end, or the edge itself.
 use borrow.Author.Needs.{needs}
-use Rattle.items.specs.Items.{node-across, edge-across}
+use Rattle.items.proofs.ItemsLaws.{node-across, edge-across}
 use Rattle.items.proofs.across.Statement.{statement}
 use Rattle.items.proofs.across.Tie as tie
 

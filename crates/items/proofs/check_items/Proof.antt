@@ -1,6 +1,6 @@
 -- `check_items` meets its contract: the checks of nodes, or of edges.
 use borrow.Author.Needs.{needs}
-use Rattle.items.specs.CallLaws.{nodes-checked, edges-checked}
+use Rattle.items.proofs.CallLaws.{nodes-checked, edges-checked}
 use Rattle.items.proofs.check_items.Statement.{statement}
 use Rattle.items.proofs.check_items.Tie as tie
 

@@ -1,6 +1,6 @@
 -- `count_at` meets its contract: there is no edge, or all edges at the node are counted, or all but the edge itself.
 use borrow.Author.Needs.{needs}
-use Rattle.items.specs.Items.{count-none, node-count-at, edge-count-at}
+use Rattle.items.proofs.ItemsLaws.{count-none, node-count-at, edge-count-at}
 use Rattle.items.proofs.count_at.Statement.{statement}
 use Rattle.items.proofs.count_at.Tie as tie
 

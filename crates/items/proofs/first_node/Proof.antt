@@ -1,6 +1,6 @@
 -- `first_node` meets its contract: a node itself, or an edge's first end.
 use borrow.Author.Needs.{needs}
-use Rattle.items.specs.Items.{node-first, edge-first}
+use Rattle.items.proofs.ItemsLaws.{node-first, edge-first}
 use Rattle.items.proofs.first_node.Statement.{statement}
 use Rattle.items.proofs.first_node.Tie as tie
 

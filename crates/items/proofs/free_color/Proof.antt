@@ -1,6 +1,6 @@
 -- `free_color` meets its contract: the smallest free colour of a node, or of an edge.
 use borrow.Author.Needs.{needs}
-use Rattle.items.specs.Items.{node-free, edge-free}
+use Rattle.items.proofs.ItemsLaws.{node-free, edge-free}
 use Rattle.items.proofs.free_color.Statement.{statement}
 use Rattle.items.proofs.free_color.Tie as tie
 

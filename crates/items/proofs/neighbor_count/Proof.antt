@@ -1,7 +1,7 @@
 -- `neighbor_count` meets its contract: the neighbours at one node, or at two.
 use native.Mathlib.Omega.{arith}
 use borrow.Author.Needs.{needs}
-use Rattle.items.specs.Items.{counts-fit, count-one, count-two}
+use Rattle.items.proofs.ItemsLaws.{counts-fit, count-one, count-two}
 use Rattle.items.proofs.neighbor_count.Statement.{statement}
 use Rattle.items.proofs.neighbor_count.Tie as tie
 

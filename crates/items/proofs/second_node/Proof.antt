@@ -1,6 +1,6 @@
 -- `second_node` meets its contract: a node itself, or an edge's second end.
 use borrow.Author.Needs.{needs}
-use Rattle.items.specs.Items.{node-second, edge-second}
+use Rattle.items.proofs.ItemsLaws.{node-second, edge-second}
 use Rattle.items.proofs.second_node.Statement.{statement}
 use Rattle.items.proofs.second_node.Tie as tie
 

@@ -1,7 +1,7 @@
 -- `color` meets its contract: the checks refuse, or the answer and its days are the definition's.
 use borrow.Author.Needs.{needs}
 use Rattle.greedy.specs.Saturation.{saturationColors}
-use Rattle.items.specs.CallLaws.{call-refused, call-passed, call-accepted}
+use Rattle.items.proofs.CallLaws.{call-refused, call-passed, call-accepted}
 use Rattle.saturation.proofs.color.Statement.{statement}
 use Rattle.saturation.proofs.color.Tie as tie
 

@@ -2,8 +2,8 @@
 use mathlib.Core.Path.{refl, sym, _∙_}
 use native.Mathlib.Omega.{arith}
 use borrow.Author.Needs.{needs}
-use Rattle.items.specs.Items.{items-tabled}
-use Rattle.saturation.specs.Turns.{from-presets}
+use Rattle.items.proofs.ItemsLaws.{items-tabled}
+use Rattle.saturation.proofs.TurnsLaws.{from-presets}
 use Rattle.saturation.proofs.color_checked.Statement.{statement}
 use Rattle.saturation.proofs.color_checked.Tie as tie
 

@@ -1,6 +1,6 @@
 -- `ask` meets its contract: the node has no place for a note, or the answer is noted, or the node is asked.
 use borrow.Author.Needs.{needs}
-use Rattle.items.specs.Marks.{asked-outside, asked-before, asked-yes, asked-no}
+use Rattle.items.proofs.MarksLaws.{asked-outside, asked-before, asked-yes, asked-no}
 use Rattle.items.proofs.marks.ask.Statement.{statement}
 use Rattle.items.proofs.marks.ask.Tie as tie
 

@@ -4,7 +4,7 @@ use mathlib.Core.Path.{_≡_}
 use lib.ListN.{length, drop}
 use borrow.Author.Needs.{needs}
 use Rattle.lists.specs.Member.{elem}
-use Rattle.items.specs.Used.{used-here, used-next, used-none}
+use Rattle.items.proofs.UsedLaws.{used-here, used-next, used-none}
 use Rattle.items.proofs.marks.has_color.Statement.{statement}
 use Rattle.items.proofs.marks.has_color.Tie as tie
 

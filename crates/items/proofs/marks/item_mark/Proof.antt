@@ -1,6 +1,6 @@
 -- `item_mark` meets its contract: there is no such item, it has a colour, or its nodes are asked, one after the other.
 use borrow.Author.Needs.{needs}
-use Rattle.items.specs.Marks.{mark-outside, mark-colored, mark-first, mark-second, mark-neither}
+use Rattle.items.proofs.MarksLaws.{mark-outside, mark-colored, mark-first, mark-second, mark-neither}
 use Rattle.items.proofs.marks.item_mark.Statement.{statement}
 use Rattle.items.proofs.marks.item_mark.Tie as tie
 

@@ -5,7 +5,8 @@ use native.Mathlib.Omega.{arith}
 use lib.ListN.{length, take}
 use borrow.Author.Needs.{needs}
 use Rattle.items.specs.Around.{acrossAll}
-use Rattle.items.specs.Stored.{stored, along-none, along-more, along-outside, along-all}
+use Rattle.items.specs.Stored.{stored}
+use Rattle.items.proofs.StoredLaws.{along-none, along-more, along-outside, along-all}
 use Rattle.items.specs.Marks.{markOf, Asked}
 use Rattle.items.proofs.marks.mark_along.Statement.{statement}
 use Rattle.items.proofs.marks.mark_along.Tie as tie

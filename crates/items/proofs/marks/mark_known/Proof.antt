@@ -1,6 +1,6 @@
 -- `mark_known` meets its contract: the items at one node get their marks, or at two, one node after the other.
 use borrow.Author.Needs.{needs}
-use Rattle.items.specs.Marks.{asked-none, around-stored, both-stored}
+use Rattle.items.proofs.MarksLaws.{asked-none, around-stored, both-stored}
 use Rattle.items.proofs.marks.mark_known.Statement.{statement}
 use Rattle.items.proofs.marks.mark_known.Tie as tie
 

@@ -1,6 +1,6 @@
 -- `mark_used` meets its contract: some item has the colour, and the marks are set, or none has it.
 use borrow.Author.Needs.{needs}
-use Rattle.items.specs.Used.{used-marked, unused-kept}
+use Rattle.items.proofs.UsedLaws.{used-marked, unused-kept}
 use Rattle.items.proofs.marks.mark_used.Statement.{statement}
 use Rattle.items.proofs.marks.mark_used.Tie as tie
 

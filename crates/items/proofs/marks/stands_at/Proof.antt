@@ -5,7 +5,8 @@ use mathlib.Core.Bool.{false}
 use native.Mathlib.Omega.{arith}
 use lib.ListN.{length, drop}
 use borrow.Author.Needs.{needs}
-use Rattle.items.specs.Standing.{standsAt, stands-none, stands-outside, stands-other, stands-here, stands-nowhere}
+use Rattle.items.specs.Standing.{standsAt}
+use Rattle.items.proofs.StandingLaws.{stands-none, stands-outside, stands-other, stands-here, stands-nowhere}
 use Rattle.items.proofs.marks.stands_at.Statement.{statement}
 use Rattle.items.proofs.marks.stands_at.Tie as tie
 

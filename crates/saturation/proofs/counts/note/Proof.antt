@@ -1,7 +1,7 @@
 -- `note` meets its contract: the item has a colour, or the colour is new to it or not.
 use native.Mathlib.Omega.{arith}
 use borrow.Author.Needs.{needs}
-use Rattle.saturation.specs.Notes.{note-colored, note-old, note-new}
+use Rattle.saturation.proofs.NotesLaws.{note-colored, note-old, note-new}
 use Rattle.saturation.proofs.counts.note.Statement.{statement}
 use Rattle.saturation.proofs.counts.note.Tie as tie
 

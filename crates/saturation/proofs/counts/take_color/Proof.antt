@@ -1,7 +1,7 @@
 -- `take_color` meets its contract: the colour is none, or no neighbour waits, or it is noted.
 use mathlib.Core.Path.{refl}
 use borrow.Author.Needs.{needs}
-use Rattle.saturation.specs.Taken.{none-taken, take-idle}
+use Rattle.saturation.proofs.TakenLaws.{none-taken, take-idle}
 use Rattle.saturation.proofs.counts.take_color.Statement.{statement}
 use Rattle.saturation.proofs.counts.take_color.Tie as tie
 

@@ -2,7 +2,7 @@
 use Prim.Native.Nat.{_-_}
 use lib.ListN.{length}
 use borrow.Author.Needs.{needs}
-use Rattle.saturation.specs.Choice.{NoneBelow, none-begin, none-saturated, none-waiting, none-colored, chosen-next, chosen-nothing}
+use Rattle.saturation.proofs.ChoiceLaws.{NoneBelow, none-begin, none-saturated, none-waiting, none-colored, chosen-next, chosen-nothing}
 use Rattle.saturation.proofs.turns.choose.Statement.{statement}
 use Rattle.saturation.proofs.turns.choose.Tie as tie
 

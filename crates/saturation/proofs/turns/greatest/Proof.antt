@@ -2,7 +2,8 @@
 use Prim.Native.Nat.{_≤_, _-_}
 use native.Mathlib.Omega.{arith}
 use borrow.Author.Needs.{needs}
-use Rattle.saturation.specs.Choice.{Greatest, All, greatest-none, greatest-same, greatest-more, greatest-all}
+use Rattle.saturation.specs.Choice.{Greatest, All}
+use Rattle.saturation.proofs.ChoiceLaws.{greatest-none, greatest-same, greatest-more, greatest-all}
 use Rattle.saturation.proofs.turns.greatest.Statement.{statement}
 use Rattle.saturation.proofs.turns.greatest.Tie as tie
 

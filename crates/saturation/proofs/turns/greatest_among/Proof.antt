@@ -2,7 +2,8 @@
 use Prim.Native.Nat.{_≤_, _-_}
 use native.Mathlib.Omega.{arith}
 use borrow.Author.Needs.{needs}
-use Rattle.saturation.specs.Choice.{Greatest, With, greatest-none, greatest-all, among-more, among-same}
+use Rattle.saturation.specs.Choice.{Greatest, With}
+use Rattle.saturation.proofs.ChoiceLaws.{greatest-none, greatest-all, among-more, among-same}
 use Rattle.saturation.proofs.turns.greatest_among.Statement.{statement}
 use Rattle.saturation.proofs.turns.greatest_among.Tie as tie
 

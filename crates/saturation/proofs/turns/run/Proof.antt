@@ -3,9 +3,9 @@ use mathlib.Core.Path.{sym, ap, _∙_}
 use native.Mathlib.Omega.{arith}
 use lib.ListN.{length}
 use borrow.Author.Needs.{needs}
-use Rattle.items.specs.Items.{items-few}
-use Rattle.saturation.specs.Start.{started-ready, preset-none}
-use Rattle.saturation.specs.Turns.{from-presets}
+use Rattle.items.proofs.ItemsLaws.{items-few}
+use Rattle.saturation.proofs.StartLaws.{started-ready, preset-none}
+use Rattle.saturation.proofs.TurnsLaws.{from-presets}
 use Rattle.saturation.proofs.turns.run.Statement.{statement}
 use Rattle.saturation.proofs.turns.run.Tie as tie
 

@@ -1,7 +1,7 @@
 -- `turn` meets its contract: the chosen item takes the smallest free colour.
 use borrow.Author.Needs.{needs}
-use Rattle.items.specs.Items.{items-few, free-smallest}
-use Rattle.saturation.specs.Turns.{turn-none, turn-chosen}
+use Rattle.items.proofs.ItemsLaws.{items-few, free-smallest}
+use Rattle.saturation.proofs.TurnsLaws.{turn-none, turn-chosen}
 use Rattle.saturation.proofs.turns.turn.Statement.{statement}
 use Rattle.saturation.proofs.turns.turn.Tie as tie
 

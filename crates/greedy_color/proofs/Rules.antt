@@ -15,7 +15,7 @@ use Rattle.greedy.specs.Call.{Rule, ruleOf, greedyNodes, greedyNodesPlain, gree
 use Rattle.greedy.proofs.CallerLaws.{GreedyRule, nodes-accept, edges-accept, precoloring-kept, proper-nodes, edge-precoloring-kept, proper-edges, nodes-plain-same, edges-plain-same, proper-nodes-without-presets, proper-edges-without-presets}
 use Rattle.greedy.specs.IndependentSet.{independentSetColors}
 use Rattle.independent_set.proofs.IndependentSetLaws.{independent-set-greedy}
-use Rattle.degree.specs.OrderLaws.{order-member, member-order, order-nodup}
+use Rattle.degree.proofs.OrderLaws.{order-member, member-order, order-nodup}
 
 pub degree-greedy : GreedyRule degreeColors
 unfolding degreeColors

@@ -17,13 +17,17 @@ use Rattle.graph.specs.Color.{noColor}
 use Rattle.graph.specs.Colored.{colorOf}
 use Rattle.graph.proofs.ColoredLaws.{color-read, color-outside}
 use Rattle.items.specs.declared.Kind.{Kind}
-use Rattle.items.specs.Items.{firstNode, secondNode, acrossOf, neighborsOf, Sized, Tabled, items-few, across-inside, first-inside, second-inside, NodeOf, neighbor-leading, leading-neighbor}
-use Rattle.items.specs.Standing.{stands-item, item-stands}
-use Rattle.items.specs.Stored.{stored, stored-here}
+use Rattle.items.specs.Items.{firstNode, secondNode, acrossOf, neighborsOf, Sized, Tabled}
+use Rattle.items.proofs.ItemsLaws.{items-few, across-inside, first-inside, second-inside, NodeOf, neighbor-leading, leading-neighbor}
+use Rattle.items.proofs.StandingLaws.{stands-item, item-stands}
+use Rattle.items.specs.Stored.{stored}
+use Rattle.items.proofs.StoredLaws.{stored-here}
 use Rattle.items.specs.Around.{around}
-use Rattle.items.specs.Marks.{stands, markOf, bare-mark}
-use Rattle.items.specs.Used.{usedMarks, used-yes, used-no}
-use Rattle.saturation.specs.Counts.{colorsAmong, color-among, among-color}
+use Rattle.items.specs.Marks.{stands, markOf}
+use Rattle.items.proofs.MarksLaws.{bare-mark}
+use Rattle.items.specs.Used.{usedMarks}
+use Rattle.items.proofs.UsedLaws.{used-yes, used-no}
+use Rattle.saturation.proofs.CountsLaws.{colorsAmong, color-among, among-color}
 
 -- An item among us that has no colour is marked if the colour stands on its neighbours.
 pub record Known (us : List ℕ) (nb : ℕ → List ℕ) (colors : List ℕ) (c : ℕ) (marks : List ℕ) : Type 0 where

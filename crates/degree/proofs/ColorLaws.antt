@@ -8,7 +8,7 @@ use native.Mathlib.Omega.{arith}
 use lib.ListN.{length, getD, set, replicate, drop, drop-of-length-le, length-set, length-replicate}
 use lib.Seq.{drop-cons, getD-set-same, getD-set-other}
 use Rattle.lists.proofs.Tests.{dec-eq}
-use Rattle.lists.specs.Member.{Mem, Nodup}
+use Rattle.lists.specs.Member.{Mem}
 use Rattle.lists.specs.Parts.{copiedOver}
 use Rattle.lists.proofs.PartsLaws.{copied-same}
 use Rattle.graph.specs.Edges.{edgeCount, firstEnd, secondEnd}
@@ -24,10 +24,14 @@ use Rattle.greedy.specs.Degree.{colorInOrder, degreeOrder, degreeColors}
 use Rattle.greedy.proofs.GreedyLaws.{edge-neighbors}
 use Rattle.items.specs.declared.Kind.{Kind}
 use Rattle.items.specs.declared.Kind.the-variants.{Nodes, Edges}
-use Rattle.items.specs.Items.{itemsOf, neighborsOf, freeColor, Tabled, items-few, free-smallest}
-use Rattle.degree.specs.Buckets.{fallingBuckets, falling-same}
-use Rattle.degree.specs.OrderLaws.{degreeAmong, degree-among, order-buckets, order-member, order-nodup}
-use Rattle.degree.specs.CountLaws.{degreeIn, Countable, zeros-at}
+use Rattle.items.specs.Items.{itemsOf, neighborsOf, freeColor, Tabled}
+use Rattle.items.proofs.ItemsLaws.{items-few, free-smallest}
+use Rattle.degree.specs.Buckets.{fallingBuckets}
+use Rattle.degree.proofs.BucketsLaws.{falling-same}
+use Rattle.degree.proofs.OrderLaws.{degreeAmong, degree-among, order-buckets, order-member, order-nodup}
+use Rattle.degree.specs.Count.{degreeIn, Countable}
+use Rattle.degree.proofs.CountLaws.{zeros-at}
+use Rattle.degree.specs.Color.{Room, Waiting}
 
 -- ---- degrees
 
@@ -38,13 +42,6 @@ degrees-next nb degrees v d known h e u b = elim (dec-eq u v) [
   | inl q ↦ rw q (getD-set-same degrees v d 0 h ∙ e)
   | inr o ↦ getD-set-other degrees v u d 0 o ∙ known u (omega (arith, o))
 ]
-
--- The lists to work with have a place for each item, and the counts, all 0, one for each degree.
-pub record Room (kind : Kind) (n : ℕ) (ends degrees counts order : List ℕ) : Type 0 where
-  pub degrees-room : itemsOf kind n ends ≤ length degrees
-  pub order-room : itemsOf kind n ends ≤ length order
-  pub counts-room : (v : ℕ) → v < itemsOf kind n ends → length (neighborsOf kind n ends v) < length counts
-  pub zeros : (d : ℕ) → getD counts d 0 ≡ 0
 
 pub nodes-room : (n : ℕ) (ends : List ℕ) → Passed n ends → Room Nodes n ends (replicate 512 0) (replicate 4097 0) (replicate 512 0)
 unfolding neighborsOf
@@ -108,12 +105,6 @@ module _ (kind : Kind) (n : ℕ) (ends presets degrees₀ degrees counts order :
   order-found = items-order (neighborsOf kind n ends) (itemsOf kind n ends) (length counts) presets degrees item-known (room .counts-room) l
 
 -- ---- the items whose turn is still to come
-
--- Each stands in the order once, has a place, and has no colour yet.
-pub record Waiting (order colors : List ℕ) : Type 0 where
-  pub once : Nodup order
-  pub inside : (v : ℕ) → Mem v order → v < length colors
-  pub free : (v : ℕ) → Mem v order → colorOf colors v ≡ noColor
 
 -- At first these are all of the order.
 pub order-waits : (nb : ℕ → List ℕ) (n : ℕ) (presets lent order copied : List ℕ) → length presets ≡ n → length lent ≡ n → order ≡ degreeOrder nb n presets → copied ≡ copiedOver presets lent → Waiting order copied

@@ -18,9 +18,12 @@ use Rattle.line_graph.proofs.LineNeighborLaws.{line-neighbor-times, line-neighb
 use Rattle.greedy.proofs.GreedyLaws.{edge-neighbors}
 use Rattle.items.specs.declared.Kind.{Kind}
 use Rattle.items.specs.declared.Kind.the-variants.{Nodes, Edges}
-use Rattle.items.specs.Items.{firstNode, secondNode, acrossOf, neighborsOf, Tabled, first-inside, second-inside, across-inside}
-use Rattle.items.specs.Around.{acrossAll, along, around, around-one, around-two}
-use Rattle.saturation.specs.Notes.{Noted, Room, noted-more, room-first, room-left}
+use Rattle.items.specs.Items.{firstNode, secondNode, acrossOf, neighborsOf, Tabled}
+use Rattle.items.proofs.ItemsLaws.{first-inside, second-inside, across-inside}
+use Rattle.items.specs.Around.{acrossAll, along, around}
+use Rattle.items.proofs.AroundLaws.{around-one, around-two}
+use Rattle.saturation.specs.Notes.{Noted, Room}
+use Rattle.saturation.proofs.NotesLaws.{noted-more, room-first, room-left}
 
 -- ---- as the code goes
 

@@ -1,0 +1,6 @@
+-- Laws of what specs/ defines.
+pub mod OrderLaws
+pub mod CountLaws
+pub mod PlaceLaws
+pub mod ColorLaws
+pub mod BucketsLaws

@@ -1,2 +1,0 @@
--- The strategies' colours are greedy.
-pub mod Rules
