@@ -1,5 +1,5 @@
 // Greedy colouring by falling degree, of a graph's nodes or of its edges: the strategy over the graph or over its line graph, which is
-// never stored.
+// never stored. Once the table is made, the number of nodes is passed on for the contracts alone, which speak of the definition's neighbours.
 ghost use mathlib.Core.Path.{_≡_};
 ghost use Prim.Native.Nat.{ℕ, _≤_, _<_};
 ghost use lib.ListN.{length, getD};

@@ -1,5 +1,6 @@
 // The two counts of each item without a colour: the different colours on its neighbours, and the neighbours that wait for a colour.
 // When an item takes a colour, the items to which that colour is not new are marked, and then its neighbours note it.
+// The number of nodes is passed on for the contracts alone, which speak of the definition's neighbours.
 ghost use mathlib.Core.Path.{_≡_};
 ghost use mathlib.Core.List.{[], _∷_};
 ghost use Prim.Native.Nat.{ℕ, _≤_, _<_};
