@@ -1,4 +1,5 @@
 -- `color_each` meets its contract. The invariant: the turns left give what all turns give at first, and their items have no colour yet.
+-- The measure: what is left to go over, length order - i; each turn goes on by one.
 use Prim.Native.Nat.{_≤_, _-_}
 use mathlib.Core.Path.{_≡_}
 use native.Mathlib.Omega.{arith}

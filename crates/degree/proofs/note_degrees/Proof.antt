@@ -1,4 +1,5 @@
 -- `note_degrees` meets its contract. The invariant: the items passed have their degrees.
+-- The measure: what is left to go over, items - v; each turn goes on by one.
 use Prim.Native.Nat.{ℕ, _≤_, _<_, _-_}
 use mathlib.Core.Path.{_≡_, _∙_}
 use native.Mathlib.Omega.{arith}

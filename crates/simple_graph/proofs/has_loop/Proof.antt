@@ -1,4 +1,5 @@
 -- `has_loop` meets its contract. The invariant: none of the edges passed is a loop.
+-- The measure: what is left to go over, m - k; each turn goes on by one.
 use Prim.Native.Nat.{_≤_, _-_}
 use mathlib.Core.Path.{_≡_}
 use mathlib.Core.Bool.{false}

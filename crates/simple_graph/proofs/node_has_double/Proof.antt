@@ -1,4 +1,5 @@
 -- `node_has_double` meets its contract. The invariant: the far ends of the edges passed differ, and just these have the node's stamp.
+-- The measure: what is left to go over, length (stretch starts entries (node .0)) - at; each turn goes on by one.
 use Prim.Native.Nat.{_≤_, _-_}
 use mathlib.Core.Path.{_≡_}
 use lib.ListN.{length}

@@ -1,4 +1,5 @@
 -- `table_has_double` meets its contract. The invariant: no node passed has two edges with the same far end, and no stamp is above the next node.
+-- The measure: what is left to go over, n - v; each turn goes on by one.
 use Prim.Native.Nat.{_≤_, _-_}
 use borrow.Author.Needs.{needs}
 use Rattle.simple_graph.specs.DoubleEdges.{Before}

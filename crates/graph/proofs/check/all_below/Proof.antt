@@ -1,4 +1,5 @@
 -- `all_below` meets its contract. The invariant: the answer so far is that of the ends passed.
+-- The measure: what is left to go over, length ends - i; each turn goes on by one.
 use Prim.Native.Nat.{_≤_, _-_}
 use mathlib.Core.Path.{_≡_, refl, _∙_}
 use mathlib.Core.Logic.{⊎-elim}

@@ -1,4 +1,5 @@
 -- `copy_colors` meets its contract. The invariant: the colours passed are copied.
+-- The measure: what is left to go over, length from - i; each turn goes on by one.
 use Prim.Native.Nat.{_≤_, _-_}
 use mathlib.Core.Path.{_≡_, refl}
 use mathlib.Core.List.{_++_}

@@ -1,4 +1,5 @@
 -- `days_of` meets its contract. The invariant: the days of the colours from i on.
+-- The measure: i, which each turn lowers by one.
 use Prim.Native.Nat.{_≤_, _-_}
 use mathlib.Core.Path.{_≡_}
 use mathlib.Core.Logic.{⊎-elim, inl, inr}

@@ -1,4 +1,5 @@
 -- `copy_numbers` meets its contract. The invariant: the numbers passed are copied.
+-- The measure: what is left to go over, count - i; each turn goes on by one.
 use Prim.Native.Nat.{_-_, _≤_, _/_}
 use mathlib.Core.Path.{_≡_, refl}
 use mathlib.Core.List.{_++_}

@@ -1,4 +1,5 @@
 -- `first_unmarked` meets its contract. The invariant: every place passed is marked.
+-- The measure: what is left to go over, length marks - c; each turn goes on by one.
 use Prim.Native.Nat.{ℕ, _≤_, _<_, _-_}
 use mathlib.Core.Logic.{_≢_}
 use native.Mathlib.Omega.{arith}

@@ -1,4 +1,5 @@
 -- `mark_colors` meets its contract. The invariant: besides what was marked, the colours of the edges passed are.
+-- The measure: what is left to go over, length edges - i; each turn goes on by one.
 use Prim.Native.Nat.{ℕ, _≤_, _-_}
 use mathlib.Core.List.{List, _++_}
 use mathlib.Core.Path.{_≡_, refl, _∙_}

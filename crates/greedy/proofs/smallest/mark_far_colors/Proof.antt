@@ -1,4 +1,5 @@
 -- `mark_far_colors` meets its contract. The invariant: the colours of the edges passed are marked, and no others.
+-- The measure: what is left to go over, length (stretch starts entries (node .0)) - at; each turn goes on by one.
 use Prim.Native.Nat.{_-_}
 use mathlib.Core.Path.{_≡_, refl, _∙_}
 use native.Mathlib.Omega.{arith}

@@ -1,4 +1,5 @@
 -- `place_of` meets its contract. The invariant: from here on the edge stands as far as it does from the front, less the edges passed.
+-- The measure: what is left to go over, length edges - i; each turn goes on by one.
 use Prim.Native.Nat.{_+_, _-_, _≤_}
 use mathlib.Core.Path.{_≡_}
 use lib.ListN.{length, drop}

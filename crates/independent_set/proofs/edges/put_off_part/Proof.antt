@@ -1,4 +1,5 @@
 -- `put_off_part` meets its contract. The invariant: the edges passed, from the back, are put off.
+-- The measure: i, which each turn lowers by one.
 use Prim.Native.Nat.{_-_, _≤_}
 use mathlib.Core.List.{reverse}
 use native.Mathlib.Omega.{arith}

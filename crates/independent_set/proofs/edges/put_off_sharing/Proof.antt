@@ -1,4 +1,5 @@
 -- `put_off_sharing` meets its contract. The invariant: the parts of the turns passed are put off.
+-- The measure: what is left to go over, 4 - turn; each turn goes on by one.
 use Prim.Native.Nat.{_-_, _≤_}
 use native.Mathlib.Omega.{arith}
 use borrow.Author.Needs.{needs}

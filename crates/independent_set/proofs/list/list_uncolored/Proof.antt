@@ -1,4 +1,5 @@
 -- `list_uncolored` meets its contract. The invariant: the items passed that have no colour are listed.
+-- The measure: what is left to go over, length presets - v; each turn goes on by one.
 use Prim.Native.Nat.{_-_, _≤_}
 use mathlib.Core.Path.{_≡_, refl}
 use native.Mathlib.Omega.{arith}

@@ -1,4 +1,5 @@
 -- `put_off_far_ends` meets its contract. The invariant: the far ends of the edges passed are put off.
+-- The measure: what is left to go over, length edges - i; each turn goes on by one.
 use Prim.Native.Nat.{ℕ, _-_}
 use mathlib.Core.List.{map}
 use lib.ListN.{length, take}

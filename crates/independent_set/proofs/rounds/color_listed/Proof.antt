@@ -1,4 +1,5 @@
 -- `color_listed` meets its contract. The invariant: the turns that are left lead to what the round leaves.
+-- The measure: the items listed; each turn takes at least one out.
 use native.Mathlib.Omega.{arith}
 use borrow.Author.Needs.{needs}
 use Rattle.greedy.specs.IndependentSet.{colorListed}

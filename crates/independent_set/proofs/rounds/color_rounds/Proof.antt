@@ -1,4 +1,5 @@
 -- `color_rounds` meets its contract. The invariant: the rounds that are left lead to the answer.
+-- The measure: the rounds left, items .count - r; each turn is one.
 use Prim.Native.Nat.{_-_}
 use mathlib.Core.Path.{sym}
 use native.Mathlib.Omega.{arith}

@@ -1,4 +1,5 @@
 -- `put_off_presets` meets its contract. The invariant: the neighbours of the presets passed are put off.
+-- The measure: what is left to go over, items .count - v; each turn goes on by one.
 use Prim.Native.Nat.{_-_, _≤_}
 use native.Mathlib.Omega.{arith}
 use borrow.Author.Needs.{needs}

@@ -1,4 +1,5 @@
 -- `has_color` meets its contract. The invariant: what is left of the colours has the colour if and only if they have it.
+-- The measure: what is left to go over, length colors - v; each turn goes on by one.
 use Prim.Native.Nat.{_-_}
 use mathlib.Core.Path.{_≡_}
 use lib.ListN.{length, drop}

@@ -1,4 +1,5 @@
 -- `stands_at` meets its contract. The invariant: none of the edges passed, those from i on, leads to the colour.
+-- The measure: i, which each turn lowers by one.
 use Prim.Native.Nat.{_≤_}
 use mathlib.Core.Path.{_≡_}
 use mathlib.Core.Bool.{false}

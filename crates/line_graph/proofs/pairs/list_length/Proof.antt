@@ -1,4 +1,5 @@
 -- `list_length` meets its contract. The invariant: the total is the length of the pairs at the nodes passed, at most 4,096 * 4,096 for each, so that no sum wraps.
+-- The measure: what is left to go over, n - v; each turn goes on by one.
 use Prim.Native.Nat.{_*_, _≤_, _-_}
 use mathlib.Core.Path.{_≡_}
 use native.Mathlib.Omega.{arith}

@@ -1,4 +1,5 @@
 -- `write_pairs` meets its contract. The invariant: the front of the list holds the pairs at the nodes passed, and the next place is right behind them.
+-- The measure: what is left to go over, n - v; each turn goes on by one.
 use Prim.Native.Nat.{_≤_, _-_}
 use mathlib.Core.Path.{_≡_, refl, _∙_}
 use native.Mathlib.Omega.{arith}

@@ -1,4 +1,5 @@
 -- `write_pairs_of` meets its contract. The invariant: from `at` on stand the pairs of the edges passed, and the next place is right behind them.
+-- The measure: what is left to go over, length edges - i; each turn goes on by one.
 use Prim.Native.Nat.{_≤_, _-_}
 use mathlib.Core.Path.{_≡_, refl, _∙_}
 use native.Mathlib.Omega.{arith}

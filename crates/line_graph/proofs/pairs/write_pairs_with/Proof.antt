@@ -1,4 +1,5 @@
 -- `write_pairs_with` meets its contract. The invariant: from `at` on stand the pairs with the later edges passed.
+-- The measure: what is left to go over, length later - i; each turn goes on by one.
 use Prim.Native.Nat.{_≤_, _-_}
 use mathlib.Core.Path.{_≡_, refl}
 use native.Mathlib.Omega.{arith}

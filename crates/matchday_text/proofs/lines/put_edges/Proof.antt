@@ -1,4 +1,5 @@
 -- `put_edges` meets its contract. The invariant: the lines of the edges passed are put.
+-- The measure: what is left to go over, edgeCount ends - k; each turn goes on by one.
 use Prim.Native.Nat.{_≤_, _-_}
 use mathlib.Core.Path.{_≡_, refl, _∙_}
 use native.Mathlib.Omega.{arith}

@@ -1,4 +1,5 @@
 -- `put_bytes` meets its contract. The invariant: the bytes passed are put.
+-- The measure: what is left to go over, length bytes - i; each turn goes on by one.
 use Prim.Native.Nat.{_≤_, _-_}
 use mathlib.Core.Path.{_≡_, refl, _∙_}
 use native.Mathlib.Omega.{arith}

@@ -1,4 +1,5 @@
 -- `read_list` meets its contract. The invariant: the numbers passed are at most as many as wanted, and no more may be read than at the start.
+-- The measure: what is left to go over, count - i; each turn goes on by one.
 use mathlib.Core.Path.{_≡_}
 use Prim.Native.Nat.{_≤_, _-_}
 use native.Mathlib.Omega.{arith}

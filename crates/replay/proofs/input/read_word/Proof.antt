@@ -1,4 +1,5 @@
 -- `read_word` meets its contract. The invariant: the bytes passed are within the word, and no more may be read than at the start.
+-- The measure: what is left to go over, length word - count; each turn goes on by one.
 use mathlib.Core.Path.{_≡_}
 use Prim.Native.Nat.{_≤_, _-_}
 use native.Mathlib.Omega.{arith}

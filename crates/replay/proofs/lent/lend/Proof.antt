@@ -1,4 +1,5 @@
 -- `lend` meets its contract. The invariant: the places passed are as lent.
+-- The measure: what is left to go over, length list - i; each turn goes on by one.
 use mathlib.Core.Path.{_≡_}
 use Prim.Native.Nat.{_≤_, _-_}
 use native.Mathlib.Omega.{arith}

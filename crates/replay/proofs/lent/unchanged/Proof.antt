@@ -1,4 +1,5 @@
 -- `unchanged` meets its contract. The invariant: the places passed are as lent.
+-- The measure: what is left to go over, length list - i; each turn goes on by one.
 use mathlib.Core.Path.{refl, _∙_, sym}
 use mathlib.Core.Bool.{false≢true}
 use Prim.Native.Nat.{_≤_, _-_}

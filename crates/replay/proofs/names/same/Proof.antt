@@ -1,4 +1,5 @@
 -- `same` meets its contract. The invariant: the bytes passed are the same.
+-- The measure: what is left to go over, length word - i; each turn goes on by one.
 use mathlib.Core.Path.{_≡_, refl, ap}
 use mathlib.Core.Bool.{false≢true}
 use mathlib.Core.List.{List}

@@ -1,4 +1,5 @@
 -- `put_all` meets its contract. The invariant: the buffer keeps its length.
+-- The measure: what is left to go over, length bytes - i; each turn goes on by one.
 use mathlib.Core.Path.{_≡_}
 use Prim.Native.Nat.{_≤_, _-_}
 use lib.ListN.{length}

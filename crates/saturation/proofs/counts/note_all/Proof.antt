@@ -1,4 +1,5 @@
 -- `note_all` meets its contract. The invariant: the items along the edges passed have noted the colour.
+-- The measure: what is left to go over, length edges - i; each turn goes on by one.
 use Prim.Native.Nat.{_≤_, _-_}
 use mathlib.Core.Path.{_≡_, refl}
 use native.Mathlib.Omega.{arith}

@@ -1,4 +1,5 @@
 -- `start` meets its contract. The invariant: the items passed have no colour and wait for all their neighbours.
+-- The measure: what is left to go over, length colors - v; each turn goes on by one.
 use Prim.Native.Nat.{_≤_, _-_}
 use mathlib.Core.Path.{_≡_, refl, _∙_}
 use native.Mathlib.Omega.{arith}

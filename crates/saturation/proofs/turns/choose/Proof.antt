@@ -1,4 +1,5 @@
 -- `choose` meets its contract. The invariant: no item passed has no colour and both of the greatest counts.
+-- The measure: what is left to go over, length colors - next; each turn goes on by one.
 use Prim.Native.Nat.{_-_}
 use lib.ListN.{length}
 use borrow.Author.Needs.{needs}

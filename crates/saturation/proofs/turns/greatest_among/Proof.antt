@@ -1,4 +1,5 @@
 -- `greatest_among` meets its contract. The invariant: the best so far is the greatest count of the items passed that have the saturation.
+-- The measure: what is left to go over, n - v; each turn goes on by one.
 use Prim.Native.Nat.{_≤_, _-_}
 use native.Mathlib.Omega.{arith}
 use borrow.Author.Needs.{needs}

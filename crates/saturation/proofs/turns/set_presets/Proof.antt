@@ -1,4 +1,5 @@
 -- `set_presets` meets its contract. The invariant: the items passed have their presets, the others no colour.
+-- The measure: what is left to go over, length presets - v; each turn goes on by one.
 use Prim.Native.Nat.{_≤_, _-_}
 use mathlib.Core.Path.{refl, _∙_, _≡_}
 use native.Mathlib.Omega.{arith}

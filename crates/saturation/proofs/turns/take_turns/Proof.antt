@@ -1,4 +1,5 @@
 -- `take_turns` meets its contract. The invariant: the turns left lead from here to the answer.
+-- The measure: the turns left, length colors - turns; each is one.
 use Prim.Native.Nat.{_≤_, _-_}
 use mathlib.Core.Path.{refl, _≡_}
 use native.Mathlib.Omega.{arith}

@@ -1,4 +1,5 @@
 -- `join_edges` meets its contract. The invariant: the edges passed are taken in, and none of them is inside one side.
+-- The measure: what is left to go over, edgeCount ends - k; each turn goes on by one.
 use Prim.Native.Nat.{_-_, _≤_}
 use mathlib.Core.Path.{_≡_, refl, _∙_}
 use mathlib.Core.Bool.{false}

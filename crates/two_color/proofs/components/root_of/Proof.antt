@@ -1,4 +1,5 @@
 -- `root_of` meets its contract. The invariant: the node reached is in the same component, with the side between the two, and the trees hold the same components.
+-- The measure: the node reached, x; a node that is no root hangs under a lower one.
 use mathlib.Core.Path.{_≡_, refl}
 use mathlib.Core.Bool.{xor}
 use native.Mathlib.Omega.{arith}

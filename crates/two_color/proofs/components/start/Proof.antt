@@ -1,4 +1,5 @@
 -- `start` meets its contract. The invariant: the nodes passed hang under themselves.
+-- The measure: what is left to go over, length up - v; each turn goes on by one.
 use Prim.Native.Nat.{ℕ, _-_, _≤_, _<_}
 use mathlib.Core.Path.{_≡_}
 use native.Mathlib.Omega.{arith}

@@ -1,4 +1,5 @@
 -- `write_sides` meets its contract. The invariant: the nodes passed have the colours of their sides.
+-- The measure: what is left to go over, n - v; each turn goes on by one.
 use Prim.Native.Nat.{_-_}
 use mathlib.Core.Logic.{⊎-elim}
 use native.Mathlib.Omega.{arith}
