@@ -1,2 +1,2 @@
--- What the callers rely on, and that the calls' contracts give it.
+-- What the callers rely on.
 pub mod Reliance

@@ -1,4 +1,4 @@
--- The edge table: what its functions answer and leave, when it is the table of a working list, and that it stays so.
+-- The edge table: what its functions answer and leave, and when it is the table of a working list.
 pub mod EdgeTable
 pub mod TableOf
 pub mod Repaint

@@ -1,4 +1,4 @@
--- Edges take new colours in place of their own: the edge table stays the table of the working list.
+-- Edges that may take new colours in place of their own.
 use Prim.Native.Nat.{ℕ, _<_}
 use mathlib.Core.Path.{_≡_}
 use mathlib.Core.List.{List}

@@ -1,4 +1,4 @@
--- The exchange of a path and the rotation of a fan are each one repaint.
+-- The new colours of an exchanged path and of a rotated fan.
 use Prim.Native.Nat.{ℕ}
 use mathlib.Core.List.{List, [], _∷_, _++_, map}
 use Rattle.graph.specs.Colored.{colorOf}

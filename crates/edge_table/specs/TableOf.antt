@@ -1,4 +1,4 @@
--- When a list is the edge table of a working list, that it is so at the start, and what it then answers.
+-- When a list is the edge table of a working list.
 use Prim.Native.Nat.{ℕ, _≤_, _<_}
 use mathlib.Core.Path.{_≡_}
 use mathlib.Core.Logic.{_≢_}

@@ -1,4 +1,4 @@
--- A list written to the front of a slice, number by number.
+-- Laws of what specs/Front defines.
 use Prim.Native.Nat.{ℕ, suc, _+_, _≤_}
 use mathlib.Core.Path.{_≡_, refl, sym, ap, _∙_}
 use mathlib.Core.List.{List, [], _∷_, _++_, append-assoc, append-nil}

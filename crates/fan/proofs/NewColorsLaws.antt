@@ -1,4 +1,4 @@
--- The colours that the exchange gives to the path and the rotation to the fan.
+-- Laws of what specs/NewColors defines.
 use Prim.Native.Nat.{ℕ, _+_, _≤_, _<_}
 use mathlib.Core.Path.{_≡_, refl, sym, ap, _∙_}
 use mathlib.Core.List.{List, [], _∷_}

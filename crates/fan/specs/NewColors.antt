@@ -3,8 +3,6 @@ use Prim.Native.Nat.{ℕ}
 use mathlib.Core.List.{List, [], _∷_}
 use Rattle.edge_table.specs.StepRepaint.{rotatedColors}
 
--- ---- as the code tests and writes them
-
 -- The colours that the fan's places take: each that of the next, the last d. Without a place there is none.
 unfoldable pub shiftedColors : List ℕ → List ℕ → ℕ → List ℕ
 shiftedColors l [] d = []

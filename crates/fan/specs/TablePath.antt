@@ -1,4 +1,4 @@
--- The path of two colours as the edge table gives it, and that a right table gives the definition's.
+-- The path of two colours as the edge table gives it.
 use Prim.Native.Nat.{ℕ, zero, suc}
 use mathlib.Core.List.{List, [], _∷_}
 use mathlib.Core.Option.{none, some}

@@ -1,4 +1,4 @@
--- The fan's places up to w as the edge table gives them, and that a right table gives those of the theory.
+-- The fan's places up to w as the edge table gives them.
 use Prim.Native.Nat.{ℕ}
 use mathlib.Core.List.{List, [], _∷_}
 use mathlib.Core.Bool.{true, false}

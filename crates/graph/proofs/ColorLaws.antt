@@ -1,4 +1,4 @@
--- Colours: days, and the smallest free colour.
+-- Laws of what specs/Color defines.
 use Prim.Native.Nat.{_-_, ℕ, zero, suc, _+_, _≤_, _<_}
 use mathlib.Core.List.{List, [], _∷_}
 use mathlib.Core.Path.{ap, sym, _∙_, _≡_, refl}

@@ -39,7 +39,7 @@ impl<'a> EdgeWalk<'a> {
         ensures place { λ r. let starts = now (starts .entry) in let entries₀ = now (entries .entry) in
             ⌜ (r .entries .ptr .0 ≡ entries .entry .ptr .0)
             × (r .entries .ptr .1 ≡ entries .entry .ptr .1 + 2 * stretchStart starts entries₀ (node .0)) ⌝ }
-        ensures answer { λ r. ⌜ r .at ≡ 0 ⌝ }
+        ensures at { λ r. ⌜ r .at ≡ 0 ⌝ }
     {
         EdgeWalk {
             entries: edges_at(starts, entries, node),

@@ -1,4 +1,4 @@
--- The smallest free colour at an edge, by marks.
+-- Laws of what specs/EdgeMarks defines.
 use Prim.Native.Nat.{ℕ, _+_, _*_, _≤_, _<_}
 use mathlib.Core.List.{List, [], _∷_, _++_, map, append-assoc, append-nil}
 use mathlib.Core.Logic.{inl, inr, _≢_}

@@ -1,4 +1,4 @@
--- Marks on colours, and the first place without one.
+-- Laws of what specs/Marks defines.
 use Prim.Native.Nat.{ℕ, zero, suc, _+_, _≤_, _<_}
 use mathlib.Core.List.{List, [], _∷_, _++_, map}
 use mathlib.Core.Logic.{inl, inr, _≢_}

@@ -1,4 +1,4 @@
-// Greedy colouring: the strategies, the checks of node colouring, and the smallest free colour at a node.
+// Greedy colouring: the strategies, the checks of node and edge colouring, and the smallest free colour of a node and of an edge.
 ghost use mathlib.Core.Path.{_≡_};
 ghost use Rattle.graph.specs.Report.{reportOfChecked};
 ghost use Rattle.greedy.specs.Call.{checkItems, checkNodes, checkEdges};

@@ -1,4 +1,4 @@
--- Edges at a node, as the code goes over them: where an edge stands among them, the part after it or before it, last first, and an edge's ends in order.
+-- Laws of what specs/Edges defines.
 use Prim.Native.Nat.{ℕ, suc, _+_, _-_, _*_, _≤_, _<_}
 use mathlib.Core.Bool.{Bool, true, false}
 use mathlib.Core.List.{List, [], _∷_, _++_, reverse, reverse-cons}

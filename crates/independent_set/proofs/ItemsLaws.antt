@@ -1,4 +1,4 @@
--- The items of a graph, nodes or edges: their neighbours, their number, and what is known of the table.
+-- Laws of what specs/Items defines.
 use Prim.Native.Nat.{ℕ, _≤_}
 use mathlib.Core.Bool.{true, false}
 use mathlib.Core.List.{List}

@@ -1,4 +1,4 @@
--- Edges at a node, as the code goes over them: where an edge stands among them, the part after it or before it, last first, and an edge's ends in order.
+-- Of edges at a node, those after an edge or those before it.
 use Prim.Native.Nat.{ℕ}
 use mathlib.Core.Bool.{Bool, true, false}
 use mathlib.Core.List.{List}

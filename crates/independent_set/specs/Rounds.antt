@@ -6,8 +6,6 @@ use lib.ListN.{length}
 use Rattle.greedy.specs.IndependentSet.{Round}
 use Rattle.independent_set.specs.Listing.{Listing}
 
--- ---- the listed items
-
 -- What a round leaves, in the arrays.
 pub record Rounded (n : ℕ) (next place : List ℕ) (end : ℕ) (colors : List ℕ) (after : Round) : Type 0 where
   pub list : Listing n next place end (after .next)

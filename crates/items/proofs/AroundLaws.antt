@@ -1,4 +1,4 @@
--- The items to which the edges at an item's nodes lead: its neighbours, and an edge itself.
+-- Laws of what specs/Around defines.
 use Prim.Native.Nat.{ℕ, _+_, _<_}
 use mathlib.Core.Path.{_≡_}
 use mathlib.Core.List.{List, [], _∷_, _++_}

@@ -1,4 +1,4 @@
--- The items of either kind, the nodes that each has, and its neighbours by the edges at these nodes.
+-- Laws of what specs/Items defines.
 use Prim.Native.Nat.{ℕ, _+_, _-_, _*_, _≤_, _<_}
 use mathlib.Core.Path.{_≡_, refl, sym, ap, subst, _∙_}
 use mathlib.Core.Logic.{_⊎_, inl, inr, _≢_}

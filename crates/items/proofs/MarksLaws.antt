@@ -1,4 +1,4 @@
--- The marks of the items to which a colour is not new: it stands at one of their nodes.
+-- Laws of what specs/Marks defines.
 use Prim.Native.Nat.{ℕ, _≤_, _<_}
 use mathlib.Core.Path.{_≡_, sym, _∙_}
 use mathlib.Core.Logic.{inl, inr}

@@ -1,4 +1,4 @@
--- Whether a colour stands at a node: whether an edge there leads to an item that has it.
+-- Laws of what specs/Standing defines.
 use Prim.Native.Nat.{ℕ, zero, suc, _-_, _≤_, _<_}
 use mathlib.Core.Path.{_≡_, refl, sym, ap, _∙_}
 use mathlib.Core.Logic.{inl, inr}

@@ -1,4 +1,4 @@
--- A list with a value stored at each of some places, one after the other.
+-- Laws of what specs/Stored defines.
 use Prim.Native.Nat.{ℕ, _+_, _≤_, _<_}
 use mathlib.Core.Path.{_≡_, refl, sym, _∙_}
 use mathlib.Core.Logic.{inl, inr}

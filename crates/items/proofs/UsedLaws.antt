@@ -1,4 +1,4 @@
--- The marks are set if some item has the colour; and whether one has it, as the code looks for it.
+-- Laws of what specs/Used defines.
 use Prim.Native.Nat.{ℕ, _+_, _≤_, _<_}
 use mathlib.Core.Path.{_≡_, sym, _∙_}
 use mathlib.Core.List.{List}

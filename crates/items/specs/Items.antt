@@ -1,4 +1,4 @@
--- The items of either kind, the nodes that each has, and its neighbours by the edges at these nodes.
+-- The items of either kind: the nodes that each has, its neighbours, their number and the smallest free colour by the table.
 use Prim.Native.Nat.{ℕ, _+_, _-_}
 use mathlib.Core.Path.{_≡_}
 use mathlib.Core.List.{List, _++_}

@@ -1,4 +1,4 @@
--- The marks are set if some item has the colour; and whether one has it, as the code looks for it.
+-- The marks are set if some item has the colour.
 use Prim.Native.Nat.{ℕ}
 use mathlib.Core.List.{List}
 use mathlib.Core.Bool.{cond}

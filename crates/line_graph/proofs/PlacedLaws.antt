@@ -1,4 +1,4 @@
--- A list written into another from a place on.
+-- Laws of what specs/Placed defines.
 use Prim.Native.Nat.{ℕ, suc, _+_, _≤_, _<_}
 use mathlib.Core.List.{List, [], _∷_, _++_, append-assoc}
 use mathlib.Core.Path.{_≡_, sym, ap, _∙_}

@@ -1,4 +1,4 @@
--- How many different numbers a list has, and how often one stands in it.
+-- Laws of what specs/Different defines.
 use Prim.Native.Nat.{ℕ, suc, _+_, _≤_}
 use mathlib.Core.List.{List, [], _∷_, _++_}
 use mathlib.Core.Logic.{inl, inr}

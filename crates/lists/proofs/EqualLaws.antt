@@ -1,4 +1,4 @@
--- Equality of lists of numbers, as a test.
+-- Laws of what specs/Equal defines.
 use Prim.Native.Nat.{ℕ}
 use mathlib.Core.Bool.{true, false≢true}
 use mathlib.Core.List.{List, [], _∷_}

@@ -1,4 +1,4 @@
--- Membership, as a fact and as a test; lists without repeats; the pigeonhole.
+-- Laws of what specs/Member defines.
 use Prim.Native.Nat.{ℕ, zero, suc, _≤_, _<_}
 use mathlib.Core.Path.{_≡_, refl, sym, ap, subst}
 use mathlib.Core.Logic.{_⊎_, inl, inr}

@@ -1,4 +1,4 @@
--- Parts of a list: what a store outside a part, or right before it, does to the part.
+-- Laws of what specs/Parts defines.
 use Prim.Native.Nat.{zero, ℕ, suc, _+_, _-_, _≤_, _<_}
 use mathlib.Core.Path.{refl, _≡_, ap, _∙_}
 use mathlib.Core.Logic.{_⊎_, inl, inr}

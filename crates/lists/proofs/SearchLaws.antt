@@ -1,4 +1,4 @@
--- Searching: whether every number of a list passes a test, and whether some number below n does.
+-- Laws of what specs/Search defines.
 use Prim.Native.Nat.{ℕ, zero, suc, _+_, _≤_, _<_}
 use mathlib.Core.Path.{_≡_, refl, sym, ap, _∙_}
 use mathlib.Core.Logic.{inl, inr}

@@ -1,4 +1,4 @@
--- The list of a function's values at the numbers below n.
+-- Laws of what specs/Tabulate defines.
 use Prim.Native.Nat.{ℕ, zero, suc, _<_}
 use mathlib.Core.Path.{_≡_, refl, sym, ap, _∙_}
 use mathlib.Core.Logic.{inl, inr}

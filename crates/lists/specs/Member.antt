@@ -1,4 +1,4 @@
--- Membership, as a fact and as a test; lists without repeats; the pigeonhole.
+-- Membership, as a fact and as a test; lists without repeats.
 use Prim.Native.Nat.{ℕ}
 use mathlib.Core.Path.{_≡_}
 use mathlib.Core.Logic.{_⊎_}

@@ -1,4 +1,4 @@
--- Parts of a list: what a store outside a part, or right before it, does to the part.
+-- Parts of a list, and a list copied over another.
 use Prim.Native.Nat.{ℕ, _-_}
 use mathlib.Core.List.{List, _++_}
 use lib.ListN.{take, drop, length}

@@ -14,7 +14,7 @@ use Rattle.vizing.proofs.Demand3ExamplesLaws.{p13-admitted, p13-colors, runs}
 use Rattle.matchday_text.specs.Text.{digits, decimal, followed, daysText, refusedText, coloredText}
 use Rattle.matchday_text.proofs.Bound.{accepts}
 use Rattle.matchday_text.proofs.FileText.{file-text, no-file-text}
-use Rattle.matchday_text.specs.Examples.{exampleFile, exampleText, example-file, example-lines, ExamplePrinted, NothingRefused}
+use Rattle.matchday_text.specs.Examples.{exampleFile, exampleText, example-file, example-lines, ExamplePrinted, EmptyFileRefused}
 
 example-colored : coloredText 4 listP13 ≡ exampleText
 unfolding coloredText daysOf
@@ -27,6 +27,6 @@ example-colored =
 pub example : ExamplePrinted
 example = file-text exampleFile (record { nodes = 4; ends = listP13; tags = 3 }) (ap fileOf example-file ∙ read-bytes 4 listP13 refl (omega arith)) ∙ example-colored
 
-pub no-bytes : NothingRefused
+pub empty-file : EmptyFileRefused
 unfolding bind fileOf fields fieldsUpTo graphOf refusedText followed decimal digits
-no-bytes = no-file-text [] refl
+empty-file = no-file-text [] refl

@@ -42,6 +42,6 @@ example-lines = refl
 abbrev pub ExamplePrinted : Type 0
 ExamplePrinted = fileText exampleFile ≡ exampleText
 
--- "An empty file gives 10."
-abbrev pub NothingRefused : Type 0
-NothingRefused = fileText [] ≡ 114 ∷ 101 ∷ 102 ∷ 117 ∷ 115 ∷ 101 ∷ 100 ∷ 32 ∷ 49 ∷ 48 ∷ 10 ∷ []
+-- "An empty file gives 10." Proved as `empty-file`.
+abbrev pub EmptyFileRefused : Type 0
+EmptyFileRefused = fileText [] ≡ 114 ∷ 101 ∷ 102 ∷ 117 ∷ 115 ∷ 101 ∷ 100 ∷ 32 ∷ 49 ∷ 48 ∷ 10 ∷ []

@@ -1,4 +1,4 @@
--- The run: the working list, its table, the marks and the tally after k edges.
+-- Laws of what specs/Run defines.
 use Prim.Native.Nat.{ℕ, suc, _+_, _≤_, _<_, max}
 use mathlib.Core.Path.{_≡_, refl, sym, ap, _∙_}
 use mathlib.Core.List.{List}

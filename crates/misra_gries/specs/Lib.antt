@@ -1,4 +1,4 @@
--- Misra-Gries edge colouring in code: the step and its parts, the tally, the run, the call's answers.
+-- Misra-Gries edge colouring in code: what the step and its parts, the tally and the run hold.
 pub mod MarkedFan
 pub mod Step
 pub mod Tally

@@ -1,4 +1,4 @@
--- The choice of the next item, by the counts that are kept.
+-- Laws of what specs/Choice defines.
 use Prim.Native.Nat.{ℕ, zero, suc, _+_, _≤_, _<_}
 use mathlib.Core.Path.{_≡_, refl, sym, ap, subst, _∙_}
 use mathlib.Core.Logic.{_⊎_, inl, inr, _≢_}

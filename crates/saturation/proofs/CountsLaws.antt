@@ -1,4 +1,4 @@
--- The two counts of the items without a colour, and what becomes of them when an item takes a colour.
+-- Laws of what specs/Counts defines.
 use Prim.Native.Nat.{ℕ, suc, _+_, _≤_, _<_}
 use mathlib.Core.Path.{_≡_, sym, ap, subst, _∙_}
 use mathlib.Core.Logic.{_⊎_, inl, inr, _≢_}

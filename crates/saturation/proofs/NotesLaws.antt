@@ -1,4 +1,4 @@
--- What the neighbours of an item that takes a colour note: one neighbour fewer waits, and the colour is counted once.
+-- Laws of what specs/Notes defines.
 use Prim.Native.Nat.{ℕ, suc, _+_, _-_, _≤_, _<_}
 use mathlib.Core.Path.{_≡_, refl, sym, ap, _∙_}
 use mathlib.Core.Logic.{inl, inr, _≢_}

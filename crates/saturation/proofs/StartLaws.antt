@@ -1,4 +1,4 @@
--- The counts before any item has a colour, and the presets that are set one after the other.
+-- Laws of what specs/Start defines.
 use Prim.Native.Nat.{ℕ, suc, _+_, _≤_, _<_}
 use mathlib.Core.Path.{_≡_, refl, sym, ap, _∙_}
 use mathlib.Core.Logic.{inl, inr}

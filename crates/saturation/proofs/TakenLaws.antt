@@ -1,4 +1,4 @@
--- An item takes a colour: room to note it, and the counts afterwards.
+-- Laws of what specs/Taken defines.
 use Prim.Native.Nat.{ℕ, suc, _+_, _≤_, _<_}
 use mathlib.Core.Path.{_≡_, refl, sym, ap, subst, _∙_}
 use mathlib.Core.Logic.{inl, inr, _≢_}

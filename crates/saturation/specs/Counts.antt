@@ -1,4 +1,4 @@
--- The two counts of the items without a colour, and what becomes of them when an item takes a colour.
+-- The two counts of the items without a colour.
 use Prim.Native.Nat.{ℕ, _<_}
 use mathlib.Core.Path.{_≡_}
 use mathlib.Core.Logic.{_≢_}

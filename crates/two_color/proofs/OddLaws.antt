@@ -1,4 +1,4 @@
--- Odd lengths, as a test, and the test of a sum of lengths.
+-- Laws of what specs/Odd defines.
 use Prim.Native.Nat.{ℕ, zero, suc, _+_}
 use mathlib.Core.Path.{_≡_, refl}
 use mathlib.Core.Bool.{Bool, true, false, not, xor}

@@ -1,4 +1,4 @@
--- Walks along the edges, and closed walks of odd length.
+-- Laws of what specs/Walk defines.
 use Prim.Native.Nat.{ℕ, suc, _+_, _<_}
 use mathlib.Core.Path.{_≡_, refl}
 use mathlib.Core.Logic.{inl}

@@ -1,4 +1,4 @@
--- The theory of two-colouring: walks, the side of each node, the outcome and its examples, and that colouring by sides is right.
+-- Two-colouring: walks, components and sides, the outcome, its clause and its examples.
 pub mod Odd
 pub mod Walk
 pub mod Sides

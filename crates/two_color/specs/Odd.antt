@@ -1,4 +1,4 @@
--- Odd lengths, as a test, and the test of a sum of lengths.
+-- Odd lengths, as a test.
 use Prim.Native.Nat.{ℕ, zero, suc}
 use mathlib.Core.Bool.{Bool, false, not}
 

@@ -39,7 +39,7 @@ pub record Bipartition (n : ℕ) (ends lent : List ℕ) (report : Report ℕ) (c
 unfoldable pub sidesOutcome : ℕ → List ℕ → List ℕ → Outcome
 sidesOutcome n ends colors = colored ((oddCycle ends (edgeCount ends) gives 8) ∷ []) colors (sides ends (edgeCount ends) n)
 
--- Two outcomes of one input that both are a bipartition or say that there is none are the same: so how `sides` joins components need not be believed. Proved as `one-bipartition`.
+-- Two outcomes of one input that meet the clause say yes or no alike, and have the same colours: so how `sides` joins components need not be believed. Proved as `one-bipartition`.
 abbrev pub OneBipartition : Type 0
 OneBipartition =
     (n : ℕ) (ends lent : List ℕ) (report report′ : Report ℕ) (colors colors′ : List ℕ) → Passed n ends → length lent ≡ n → Bipartition n ends lent report colors → Bipartition n ends lent report′ colors′

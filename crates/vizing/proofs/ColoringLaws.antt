@@ -1,4 +1,4 @@
--- Graphs as an incidence relation, free colours, proper colourings, and a proper colouring of which one edge changes.
+-- Laws of what specs/Coloring defines.
 use Prim.Native.Nat.{ℕ}
 use mathlib.Core.Path.{_≡_, ap, subst}
 use mathlib.Core.Logic.{_⊎_, inl, inr, _≢_}

@@ -1,4 +1,4 @@
--- Demand 3 as one claim about a call and about what its run holds.
+-- Laws of what specs/Demand3 defines.
 use Prim.Native.Nat.{ℕ, zero, suc, _≤_, _<_}
 use mathlib.Core.Path.{_≡_}
 use mathlib.Core.Logic.{inl, inr}

@@ -1,4 +1,4 @@
--- Graphs without loops and double edges, and the two tests of the call that tell.
+-- Laws of what specs/Simple defines.
 use Prim.Native.Nat.{ℕ, _<_}
 use mathlib.Core.Path.{_≡_, sym, _∙_}
 use mathlib.Core.Logic.{inl, inr}

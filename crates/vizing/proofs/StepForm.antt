@@ -1,5 +1,5 @@
 -- The step as the theory goes through it: the fan's edges after its first, and the fan's places 1 to w, each built from the front, with the
--- far end of the edge before. It is the step of the definitions, which are opened here and nowhere else in the theory.
+-- far end of the edge before. It is the step of the definitions: `find`, `step` and `rotate` are opened here, and besides only where rows compute them.
 use Prim.Native.Nat.{ℕ, zero, suc, _-_}
 use mathlib.Core.Path.{_≡_, refl, ap, _∙_}
 use mathlib.Core.List.{List, [], _∷_, _++_, map, append-assoc}

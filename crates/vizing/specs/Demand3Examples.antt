@@ -1,4 +1,4 @@
--- Demand 3 is neither empty nor loose: lists that it admits, where D + 1 colours are needed and where a later edge changes colours given before.
+-- Two lists that demand 3 admits: the triangle, where D + 1 colours are needed, and P13's, where a later edge changes colours given before.
 use Prim.Native.Nat.{ℕ}
 use mathlib.Core.List.{List, [], _∷_}
 

@@ -1,12 +1,9 @@
--- Misra-Gries edge colouring: definitions, theory, and the claim of demand 3.
+-- Misra-Gries edge colouring: the definitions, what holds at each step, the claim of demand 3 and the clause of the call's contract.
 pub mod MisraGries
 pub mod Answers
 pub mod Simple
--- one step keeps a proper colouring within D + 1 colours
 pub mod Coloring
 pub mod Step
--- the first k edges alone
--- the claim
 pub mod Demand3
 pub mod Clause
 pub mod Demand3Examples

@@ -1,4 +1,4 @@
--- Four wrong calls: each contradicts the contract's own clause on one list, at the part of it that is named.
+-- Four wrong calls, and that each contradicts the contract's own clause on one list.
 use Prim.Native.Nat.{ℕ, zero, suc}
 use mathlib.Core.Path.{_≡_}
 use mathlib.Core.List.{List, [], _∷_, _++_}
@@ -49,7 +49,7 @@ fillsIn n ends colors = let m = edgeCount ends in record { report = accepted m; 
 abbrev pub filledP13 : List ℕ
 filledP13 = fillsIn 4 listP13 (replicate 4 noColor) .colors
 
--- Each of them falls, and a call that does neither has the clause nor meets the claim. Proved as `wrong-calls-fall`.
+-- Each of them falls. A call that falls has not the clause, and does not meet the claim. Proved as `wrong-calls-fall`.
 pub record WrongCallsFall : Type 0 where
   pub refuses : (number : ℕ) → Falls (refusesAll number)
   pub zeros : Falls allZero
