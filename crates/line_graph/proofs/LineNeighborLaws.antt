@@ -16,7 +16,7 @@ use Rattle.lists.specs.Different.{count}
 use Rattle.lists.proofs.DifferentLaws.{count-append, count-here, count-there, count-none}
 use Rattle.graph.specs.Edges.{edgeCount, firstEnd, secondEnd, isLoop, edgesAt, degree, neighbors, At}
 use Rattle.graph.proofs.EdgeLaws.{edge-at, at-edge, edges-at-nodup}
-use Rattle.graph.proofs.NeighborLaws.{neighbor-times, degree-bound}
+use Rattle.graph.proofs.NeighborLaws.{degree-bound}
 use Rattle.graph.proofs.TableLaws.{Inside}
 use Rattle.line_graph.specs.LineList.{pairsWith, pairsOf, linePairs}
 use Rattle.line_graph.specs.LineNeighbors.{beforeIn, afterIn, laterAt, earlierAt, higherEnd, lowerEnd, lineNeighbors}
@@ -372,18 +372,6 @@ module _ (ends : List ℕ) (m k : ℕ) (h : k < m) where
   line-neighbor-times-loop j o e =
       let a = firstEnd ends k in
       omega (arith, ap (count j) (loop-neighbors ends m k (eq-eqb _ _ e)), count-append j (laterAt ends m k a) (earlierAt ends m k a), times-at j a o (inl refl))
-
--- Each of two edges is the other's neighbour equally often.
-pub line-times-symmetric : (ends : List ℕ) (m n j k : ℕ) → Inside ends m n → j < m → k < m → j ≢ k → count j (lineNeighbors ends m k) ≡ count k (lineNeighbors ends m j)
-line-times-symmetric ends m n j k inside h b o =
-    let l = linePairs ends m n in
-    ap (count j) (sym (line-neighbors ends m n k inside b)) ∙ (neighbor-times l (edgeCount l) k j (λ e. o (sym e)) ∙ ap (count k) (line-neighbors ends m n j inside h))
-
--- A neighbour's neighbour is k again.
-pub line-neighbor-symmetric : (ends : List ℕ) (m j k : ℕ) → k < m → Mem j (lineNeighbors ends m k) → Mem k (lineNeighbors ends m j)
-line-neighbor-symmetric ends m j k h p =
-    let r = line-neighbor-member ends m k j p in
-    member-line-neighbor ends m j k (r .2 .0) (r .0) h (λ e. r .1 (sym e)) (r .2 .2) (r .2 .1)
 
 -- Two ends with at most m edges each, less k itself.
 pub line-neighbor-bound : (ends : List ℕ) (m k : ℕ) → k < m → length (lineNeighbors ends m k) < 2 * m
