@@ -13,6 +13,8 @@ use Rattle.lists.proofs.Tests.{by-test, dec-eq, and-true}
 use Rattle.lists.specs.Member.{Mem, Nodup}
 use Rattle.lists.proofs.MemberLaws.{mem-append, mem-append-left, mem-append-right, nodup-append}
 use Rattle.graph.specs.Edges.{firstEnd, secondEnd, isLoop, farEnd, keep, secondAt, firstEdges, secondEdges, edgesAt, degree, At}
+-- No name of it is used: the rows are to be checked before the laws, so that a wrong definition is refused for what it gives.
+use Rattle.graph.specs.Examples
 
 -- ---- far ends
 

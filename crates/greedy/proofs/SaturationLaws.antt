@@ -20,6 +20,8 @@ use Rattle.greedy.proofs.UncoloredLaws.{uncolored-member, member-uncolo
 use Rattle.greedy.specs.Greedy.{Neighborhood, Greedy}
 use Rattle.greedy.proofs.TurnLaws.{Partial, partial-presets, partial-turn, partial-greedy, turn-color, turn-here, turn-other, turn-size}
 use Rattle.greedy.specs.Saturation.{saturation, uncoloredNeighbors, greater, greatest, saturationFrom, orderFrom, saturationColors, noneGreater, legalTurn, legalRun}
+-- No name of it is used: the rows are to be checked before the laws, so that a wrong definition is refused for what it gives.
+use Rattle.greedy.specs.Examples
 
 module _ (nb : ℕ → List ℕ) where
   module _ (colors : List ℕ) where

@@ -403,7 +403,35 @@ fn call_matchdays(
     put_matchdays(text, waiting, file, &mut bytes[..c])
 }
 
-// The line's call; a line that is none prints nothing.
+// The line's call of a greedy colouring or of Misra-Gries; a line that is none prints nothing.
+fn call_coloring(
+    text: &mut [u8],
+    waiting: usize,
+    n: usize,
+    ends: &[u16],
+    presets: &[u16],
+    line: Line,
+    list: &mut [u16],
+) -> usize {
+    let name = line.name;
+    match name {
+        Name::GreedyNodeColor => call_node_color(text, waiting, n, ends, line, list),
+        Name::GreedyNodeColorWithPresetColors => {
+            call_node_color_preset(text, waiting, n, ends, presets, line, list)
+        }
+        Name::GreedyNodeColorWithColoringStrategy => {
+            call_node_color_by(text, waiting, n, ends, presets, line, list)
+        }
+        Name::GreedyEdgeColor => call_edge_color(text, waiting, n, ends, line, list),
+        Name::GreedyEdgeColorWithColoringStrategy => {
+            call_edge_color_by(text, waiting, n, ends, presets, line, list)
+        }
+        Name::MisraGriesEdgeColor => call_misra_gries(text, waiting, n, ends, line, list),
+        _ => waiting,
+    }
+}
+
+// The line's call, on as much of each slice as was read.
 pub(crate) fn call(
     text: &mut [u8],
     waiting: usize,
@@ -430,32 +458,8 @@ pub(crate) fn call(
         Name::EdgeWalk => call_edge_walk(text, waiting, n, ends, line, list, entries),
         Name::TwoColor => call_two_color(text, waiting, n, ends, line, bytes),
         Name::LineGraph => call_line_graph(text, waiting, n, ends, line, list),
-        Name::GreedyNodeColor => call_node_color(text, waiting, n, ends, line, list),
-        Name::GreedyNodeColorWithPresetColors => call_node_color_preset(
-            text,
-            waiting,
-            n,
-            ends,
-            presets,
-            line,
-            list,
-        ),
-        Name::GreedyNodeColorWithColoringStrategy => call_node_color_by(
-            text,
-            waiting,
-            n,
-            ends,
-            presets,
-            line,
-            list,
-        ),
-        Name::GreedyEdgeColor => call_edge_color(text, waiting, n, ends, line, list),
-        Name::GreedyEdgeColorWithColoringStrategy => {
-            call_edge_color_by(text, waiting, n, ends, presets, line, list)
-        }
-        Name::MisraGriesEdgeColor => call_misra_gries(text, waiting, n, ends, line, list),
         Name::ReadGraphFile => call_read_file(text, waiting, file, line, list),
         Name::Matchdays => call_matchdays(text, waiting, file, line, bytes),
-        _ => waiting,
+        _ => call_coloring(text, waiting, n, ends, presets, line, list),
     }
 }

@@ -18,6 +18,8 @@ use Rattle.two_color.proofs.OddLaws.{false-xor, xor-false, not-xor, xor
 use Rattle.two_color.specs.Walk.{Walk, stay, along, OddClosedWalk}
 use Rattle.two_color.proofs.WalkLaws.{WalkOf, walk-first, walk-second, walk-widen, of-append, of-reverse, of-widen, of-edge}
 use Rattle.two_color.specs.Sides.{lower, givesWay, lowest, oddSide, oddCycle, sideColor, sides}
+-- No name of it is used: the rows are to be checked before the laws, so that a wrong definition is refused for what it gives.
+use Rattle.two_color.specs.Examples
 
 -- ---- the lower of two, and which gives way to it
 

@@ -18,6 +18,8 @@ use Rattle.vizing.proofs.FirstEdges.{first-end-take, second-end-take, e
 use Rattle.vizing.specs.Simple.{SameEnds}
 use Rattle.vizing.proofs.SimpleLaws.{simple-no-loop, simple-no-double, passed-simple}
 use Rattle.vizing.specs.Demand3.{Admitted}
+-- No name of it is used: the rows are to be checked before the laws, so that a wrong definition is refused for what it gives.
+use Rattle.vizing.specs.Answers
 
 -- ---- an admitted list passes
 

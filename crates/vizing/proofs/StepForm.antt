@@ -18,6 +18,8 @@ use Rattle.graph.proofs.EdgeLaws.{far-first}
 use Rattle.graph.specs.Colored.{colorOf, smallestFreeAt}
 use Rattle.vizing.specs.MisraGries.{isFree, store, joins, firstJoining, lastOf, fanFrom, fanOf, path, exchange, firstFreePlace, rotate, Found, find, step}
 use Rattle.vizing.proofs.DefinitionLaws.{some-or-none}
+-- No name of it is used: the rows are to be checked before the laws, so that a wrong definition is refused for what it gives.
+use Rattle.vizing.specs.Answers
 
 -- ---- the parts
 

@@ -3,6 +3,8 @@ use Prim.Native.Nat.{ℕ, zero, suc}
 use mathlib.Core.Path.{_≡_, refl, ap, ap₂}
 use mathlib.Core.List.{List}
 use Rattle.vizing.specs.MisraGries.{Tally, greatestColor, stepHeld, heldAfter}
+-- No name of it is used: the rows are to be checked before the laws, so that a wrong definition is refused for what it gives.
+use Rattle.vizing.specs.Answers
 
 -- A tally is its two numbers.
 pub tally-same : (a b : Tally) → a .edges ≡ b .edges → a .greatest ≡ b .greatest → a ≡ b
