@@ -16,7 +16,7 @@ use Rattle.graph.specs.Table.{incidenceChecks, incidenceOf}
 use Rattle.graph.specs.Color.{Outcome, colored}
 use Rattle.two_color.specs.Sides.{oddCycle}
 use Rattle.two_color.specs.TwoColor.{inputChecks, twoColor}
-use Rattle.line_graph.specs.LineList.{lineChecks, lineGraph}
+use Rattle.line_list.specs.LineList.{lineChecks, lineGraph}
 use Rattle.greedy.specs.Call.{Rule, ruleOf, itemChecks, greedyItems, greedyItemsPlain, greedyNodes, greedyNodesPlain, edgeNeighbors, greedyEdges, greedyEdgesPlain}
 use Rattle.greedy.specs.declared.ColoringStrategy.{ColoringStrategy}
 use Rattle.vizing.specs.MisraGries.{misraGriesChecks, misraGries}

@@ -5,7 +5,7 @@ ghost use Rattle.graph.specs.Report.{reportOfIncidence, reportOfColoring};
 ghost use Rattle.graph.specs.Table.{incidenceOf};
 ghost use Rattle.two_color.specs.TwoColor.{twoColor};
 ghost use Rattle.line_graph.specs.LineReport.{reportOfLineList};
-ghost use Rattle.line_graph.specs.LineList.{lineGraph};
+ghost use Rattle.line_list.specs.LineList.{lineGraph};
 ghost use Rattle.greedy.specs.Degree.{degreeColors};
 ghost use Rattle.greedy.specs.Call.{greedyNodes, greedyNodesPlain, greedyEdgesPlain};
 ghost use Rattle.vizing.specs.MisraGries.{misraGries};

@@ -17,7 +17,7 @@ use Rattle.graph.specs.Colored.{colorOf, smallestFreeAt}
 use Rattle.graph.proofs.ColoredLaws.{color-set-other}
 use Rattle.graph.specs.Check.{Passed}
 use Rattle.graph.proofs.NeighborLaws.{passed-degree, degree-bound}
-use Rattle.line_graph.proofs.LineNeighborLaws.{line-neighbor-count, line-neighbor-count-loop}
+use Rattle.line_list.proofs.LineNeighborLaws.{line-neighbor-count, line-neighbor-count-loop}
 use Rattle.greedy.specs.Turn.{uncolored, colorItem}
 use Rattle.greedy.proofs.UncoloredLaws.{uncolored-member}
 use Rattle.greedy.specs.Degree.{colorInOrder, degreeOrder, degreeColors}

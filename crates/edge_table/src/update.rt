@@ -1,10 +1,10 @@
 // Edges lose and take colours, in the working list and in the table alike.
 use crate::EdgeTable;
 use crate::Entry;
+use edge_walk::end_at;
 use graph::Color;
 use graph::EdgeIndex;
 use graph::NodeIndex;
-use graph::end_at;
 ghost use mathlib.Core.Path.{_≡_};
 ghost use lib.ListN.{set};
 ghost use Rattle.graph.specs.Colored.{colorOf};

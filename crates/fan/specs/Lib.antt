@@ -1,6 +1,3 @@
--- What a step reads: the candidates of the fan, the path, the places up to w, the new colours.
-pub mod Front
+-- The candidates of the fan and its places up to w, as a step reads them.
 pub mod Candidates
-pub mod TablePath
 pub mod TablePlaces
-pub mod NewColors

@@ -1,9 +1,9 @@
 // The fan's places up to w (step 4).
 use edge_table::is_free;
+use edge_walk::far_end;
 use graph::Color;
 use graph::EdgeIndex;
 use graph::NodeIndex;
-use graph::far_end;
 ghost use mathlib.Core.Path.{_≡_};
 ghost use Prim.Native.Nat.{_+_};
 ghost use lib.ListN.{length, drop};

@@ -3,7 +3,6 @@ pub mod CheckLaws
 pub mod EdgeLaws
 pub mod TableLaws
 pub mod CountLaws
-pub mod WalkLaws
 pub mod StretchLaws
 pub mod ColoredLaws
 pub mod NeighborLaws

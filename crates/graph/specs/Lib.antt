@@ -5,7 +5,6 @@ pub mod Edges
 pub mod Table
 pub mod Examples
 pub mod Stretch
-pub mod Walk
 pub mod Color
 pub mod Colored
 pub mod Rows

@@ -1,21 +1,13 @@
-// Graphs as a node count and a list of ends: the checks, one node's edges and the walk over them, colours.
+// Graphs as a node count and a list of ends: the checks, colours.
 ghost use mathlib.Core.Path.{_≡_};
 ghost use Rattle.graph.specs.Report.{number};
 
 mod check;
 mod colors;
-mod edges;
-pub mod walk;
 
 pub use check::check_graph;
 pub use colors::copy_colors;
 pub use colors::days_of;
-pub use edges::edges_at;
-pub use edges::end_at;
-pub use edges::far_end;
-pub use walk::EdgeWalk;
-pub use walk::WalkStep;
-pub use walk::edge_at;
 
 // A node's number; never taken for an edge's.
 pub struct NodeIndex(pub u16);

@@ -17,9 +17,9 @@ use Rattle.graph.specs.Colored.{colorOf}
 use Rattle.graph.specs.Edges.{edgeCount, neighbors, At}
 use Rattle.graph.specs.Check.{Passed}
 use Rattle.graph.proofs.CheckLaws.{passed-inside}
-use Rattle.line_graph.specs.LineList.{linePairs}
-use Rattle.line_graph.specs.LineNeighbors.{lineNeighbors}
-use Rattle.line_graph.proofs.LineNeighborLaws.{line-neighbors, pair-ends-inside, member-line-neighbor, line-neighbor-bound}
+use Rattle.line_list.specs.LineList.{linePairs}
+use Rattle.line_list.specs.LineNeighbors.{lineNeighbors}
+use Rattle.line_list.proofs.LineNeighborLaws.{line-neighbors, pair-ends-inside, member-line-neighbor, line-neighbor-bound}
 use Rattle.graph.proofs.NeighborLaws.{neighbor-inside, neighbor-symmetric, neighbor-times, passed-neighbor, passed-degree}
 use Rattle.greedy.specs.Call.{edgeNeighbors}
 use Rattle.greedy.proofs.TurnLaws.{others}

@@ -5,5 +5,3 @@ pub mod GreedyLaws
 pub mod TurnLaws
 pub mod SaturationLaws
 pub mod CallerLaws
-pub mod EdgeMarksLaws
-pub mod MarksLaws

@@ -10,7 +10,7 @@ use Rattle.graph.specs.Report.{Report, accepted}
 use Rattle.graph.specs.Check.{Check, _gives_, answered, graphChecks, lengthCheck}
 use Rattle.graph.specs.Edges.{edgeCount, firstEnd, secondEnd, neighbors, At}
 use Rattle.graph.specs.Color.{Outcome, colored, noColor}
-use Rattle.line_graph.specs.LineList.{linePairs}
+use Rattle.line_list.specs.LineList.{linePairs}
 use Rattle.graph.specs.Colored.{colorOf}
 use Rattle.greedy.specs.declared.ColoringStrategy.{ColoringStrategy}
 use Rattle.greedy.specs.Degree.{degreeColors}

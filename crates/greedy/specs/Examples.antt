@@ -13,7 +13,7 @@ use Rattle.graph.specs.Edges.{firstEnd, secondEnd, isLoop, farEnd, secondAt, fi
 use Rattle.graph.specs.Color.{colored, daysOf, smallestFree, smallestFrom, noColor}
 use Rattle.graph.specs.Colored.{colorOf, isColored, coloredAmong, smallestFreeAt}
 use Rattle.graph.specs.Rows.{Row, sameReport, holds, allHold}
-use Rattle.line_graph.specs.LineList.{pairsWith, pairsOf, linePairs}
+use Rattle.line_list.specs.LineList.{pairsWith, pairsOf, linePairs}
 use Rattle.greedy.specs.Turn.{uncolored, colorItem}
 use Rattle.greedy.specs.Degree.{insertByDegree, byDegree, colorInOrder, degreeOrder, degreeColors}
 use Rattle.greedy.specs.Saturation.{uncoloredAmong, saturation, uncoloredNeighbors, greater, greatest, saturationFrom, saturationColors, noneGreater, legalTurn, legalRun}

@@ -5,6 +5,4 @@ pub mod Saturation
 pub mod IndependentSet
 pub mod Call
 pub mod Examples
-pub mod Marks
-pub mod EdgeMarks
 pub mod Greedy

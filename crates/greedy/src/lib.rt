@@ -1,15 +1,10 @@
-// Greedy colouring: the strategies, the checks of node and edge colouring, and the smallest free colour of a node and of an edge.
+// Greedy colouring: the strategies, and the checks of node and edge colouring.
 ghost use mathlib.Core.Path.{_≡_};
 ghost use Rattle.graph.specs.Report.{reportOfChecked};
 ghost use Rattle.greedy.specs.Call.{checkItems, checkNodes, checkEdges};
 use graph::Checked;
 use graph::Refusal;
 use graph::check_graph;
-
-mod smallest;
-
-pub use smallest::smallest_color;
-pub use smallest::smallest_edge_color;
 
 // Which of the strategies colours.
 pub enum ColoringStrategy {

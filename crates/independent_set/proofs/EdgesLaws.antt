@@ -12,7 +12,7 @@ use lib.Dec.{eqb}
 use borrow.Author.Tests.{eq-eqb, ne-eqb, lt-ltb, le-ltb}
 use Rattle.lists.proofs.Tests.{by-test, dec-eq}
 use Rattle.graph.specs.Edges.{firstEnd, secondEnd}
-use Rattle.line_graph.specs.LineNeighbors.{beforeIn, afterIn, higherEnd, lowerEnd}
+use Rattle.line_list.specs.LineNeighbors.{beforeIn, afterIn, higherEnd, lowerEnd}
 use Rattle.greedy.specs.IndependentSet.{placeOf, Lists, putOff, putOffAll}
 use Rattle.independent_set.specs.Listing.{Held, listsAt}
 use Rattle.independent_set.proofs.ListingLaws.{lists-held}

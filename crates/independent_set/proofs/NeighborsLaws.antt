@@ -18,9 +18,9 @@ use Rattle.graph.specs.Edges.{edgeCount, farEnd, firstEnd, secondEnd, isLoop, e
 use Rattle.graph.proofs.EdgeLaws.{edge-at, edges-at-nodup}
 use Rattle.graph.proofs.NeighborLaws.{neighbors-far-ends, passed-neighbor}
 use Rattle.graph.specs.Stretch.{stretch}
-use Rattle.line_graph.specs.LineNeighbors.{laterAt, earlierAt, higherEnd, lowerEnd, lineNeighbors}
-use Rattle.line_graph.proofs.LineNeighborLaws.{loop-neighbors, apart-neighbors}
-use Rattle.line_graph.proofs.PairLaws.{before-member, after-member}
+use Rattle.line_list.specs.LineNeighbors.{laterAt, earlierAt, higherEnd, lowerEnd, lineNeighbors}
+use Rattle.line_list.proofs.LineNeighborLaws.{loop-neighbors, apart-neighbors}
+use Rattle.line_list.proofs.PairLaws.{before-member, after-member}
 use Rattle.greedy.proofs.GreedyLaws.{edge-neighbors}
 use Rattle.greedy.specs.IndependentSet.{Lists, putOff, putOffAll}
 use Rattle.independent_set.specs.declared.items.Items.{Items}

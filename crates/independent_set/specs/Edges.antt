@@ -2,7 +2,7 @@
 use Prim.Native.Nat.{ℕ}
 use mathlib.Core.Bool.{Bool, true, false}
 use mathlib.Core.List.{List}
-use Rattle.line_graph.specs.LineNeighbors.{beforeIn, afterIn}
+use Rattle.line_list.specs.LineNeighbors.{beforeIn, afterIn}
 
 -- The numbers after k, or those before it.
 unfoldable pub partIn : Bool → ℕ → List ℕ → List ℕ

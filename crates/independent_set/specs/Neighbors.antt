@@ -4,7 +4,7 @@ use mathlib.Core.Bool.{cond}
 use mathlib.Core.List.{List, []}
 use lib.Dec.{eqb, ltb}
 use Rattle.graph.specs.Edges.{isLoop}
-use Rattle.line_graph.specs.LineNeighbors.{higherEnd, lowerEnd}
+use Rattle.line_list.specs.LineNeighbors.{higherEnd, lowerEnd}
 use Rattle.independent_set.specs.Edges.{partIn}
 
 -- ---- the parts of the edges that share an end with an edge

@@ -6,7 +6,7 @@ ghost use mathlib.Core.List.{reverse};
 ghost use Prim.Native.Nat.{ℕ, _<_};
 ghost use Rattle.lists.specs.Member.{Mem};
 ghost use Rattle.graph.specs.Stretch.{stretch};
-ghost use Rattle.line_graph.specs.LineNeighbors.{higherEnd, lowerEnd};
+ghost use Rattle.line_list.specs.LineNeighbors.{higherEnd, lowerEnd};
 ghost use Rattle.greedy.specs.IndependentSet.{placeOf, putOffAll};
 ghost use Rattle.independent_set.specs.Items.{neighborsOf, Tabled};
 ghost use Rattle.independent_set.specs.Listing.{Held, listsAt};
@@ -15,10 +15,10 @@ ghost use Rattle.independent_set.specs.Neighbors.{partAt};
 use crate::items::Items;
 use crate::list::Counts;
 use crate::list::put_off;
+use edge_walk::edges_at;
+use edge_walk::end_at;
 use graph::EdgeIndex;
 use graph::NodeIndex;
-use graph::edges_at;
-use graph::end_at;
 use line_graph::node_of_edge;
 
 // Where an edge stands among these, their end if it does not.

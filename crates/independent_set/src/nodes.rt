@@ -8,10 +8,10 @@ ghost use Rattle.independent_set.specs.Listing.{Held, listsAt};
 use crate::items::Items;
 use crate::list::Counts;
 use crate::list::put_off;
+use edge_walk::edges_at;
+use edge_walk::far_end;
 use graph::EdgeIndex;
 use graph::NodeIndex;
-use graph::edges_at;
-use graph::far_end;
 
 // The listed neighbours of a node are put off, in incidence order.
 pub(crate) fn put_off_far_ends(

@@ -14,17 +14,17 @@ use Rattle.graph.specs.Check.{Passed}
 use Rattle.graph.proofs.CheckLaws.{passed-inside}
 use Rattle.graph.specs.Edges.{edgeCount, firstEnd, secondEnd, farEnd, edgesAt, degree, neighbors, At}
 use Rattle.graph.proofs.EdgeLaws.{at-edge}
-use Rattle.graph.specs.Stretch.{stretch, Table}
+use Rattle.graph.specs.Stretch.{bounds, stretch, Table}
 use Rattle.graph.proofs.NeighborLaws.{neighbor-edge, edge-neighbor, passed-neighbor, length-neighbors}
-use Rattle.line_graph.proofs.LineNeighborLaws.{line-neighbor-member, line-neighbor-count, line-neighbor-count-loop}
+use Rattle.line_list.proofs.LineNeighborLaws.{line-neighbor-member, line-neighbor-count, line-neighbor-count-loop}
 use Rattle.greedy.specs.Greedy.{Neighborhood}
 use Rattle.graph.specs.Color.{smallestFrom, noColor}
 use Rattle.graph.specs.Colored.{colorOf, smallestFreeAt}
 use Rattle.greedy.proofs.GreedyLaws.{node-neighborhood, edge-neighborhood, edge-neighbors, sharing-neighbor}
-use Rattle.greedy.specs.Marks.{farColors}
-use Rattle.greedy.proofs.MarksLaws.{smallest-color-node}
-use Rattle.greedy.specs.EdgeMarks.{colorsOf}
-use Rattle.greedy.proofs.EdgeMarksLaws.{smallest-color-edge}
+use Rattle.smallest_color.specs.Marks.{farColors}
+use Rattle.smallest_color.proofs.MarksLaws.{smallest-color-node}
+use Rattle.smallest_color.specs.EdgeMarks.{colorsOf}
+use Rattle.smallest_color.proofs.EdgeMarksLaws.{smallest-color-edge}
 use Rattle.items.specs.declared.Kind.{Kind}
 use Rattle.items.specs.declared.Kind.the-variants.{Nodes, Edges}
 use Rattle.items.specs.Items.{itemsOf, firstNode, secondNode, acrossOf, ownOf, neighborsOf, countAt, neighborCount, freeColor, Sized, Tabled}
@@ -158,7 +158,7 @@ leading-neighbor Edges n ends items sized v u h d l =
 -- ---- how many
 
 stretch-short : (starts entries : List ℕ) (v : ℕ) → length (stretch starts entries v) ≤ length entries
-unfolding stretch
+unfolding stretch bounds
 stretch-short starts entries v =
     let from = getD starts v 0 in
     let to = getD starts (v + 1) 0 in

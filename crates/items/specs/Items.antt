@@ -10,8 +10,8 @@ use Rattle.graph.specs.Edges.{edgeCount, firstEnd, secondEnd, farEnd, neighbors
 use Rattle.graph.specs.Stretch.{stretch, Table}
 use Rattle.greedy.specs.Call.{Rule, edgeNeighbors, greedyNodes, greedyEdges}
 use Rattle.graph.specs.Color.{Outcome, smallestFrom}
-use Rattle.greedy.specs.Marks.{farColors}
-use Rattle.greedy.specs.EdgeMarks.{colorsOf}
+use Rattle.smallest_color.specs.Marks.{farColors}
+use Rattle.smallest_color.specs.EdgeMarks.{colorsOf}
 use Rattle.items.specs.declared.Kind.{Kind}
 use Rattle.items.specs.declared.Kind.the-variants.{Nodes, Edges}
 

@@ -4,19 +4,19 @@ ghost use mathlib.Core.Path.{_≡_};
 ghost use Rattle.graph.specs.Report.{reportOfChecked};
 ghost use Rattle.greedy.specs.Call.{checkItems};
 ghost use Rattle.items.specs.Items.{itemsOf, firstNode, secondNode, acrossOf, countAt, neighborCount, freeColor};
+use edge_walk::edges_at;
+use edge_walk::end_at;
+use edge_walk::far_end;
 use graph::Checked;
 use graph::Color;
 use graph::EdgeIndex;
 use graph::NodeIndex;
-use graph::edges_at;
-use graph::end_at;
-use graph::far_end;
 use greedy::check_edges;
 use greedy::check_nodes;
-use greedy::smallest_color;
-use greedy::smallest_edge_color;
 use line_graph::edge_of_node;
 use line_graph::node_of_edge;
+use smallest_color::smallest_color;
+use smallest_color::smallest_edge_color;
 
 mod marks;
 

@@ -12,10 +12,10 @@ use crate::Kind;
 use crate::across;
 use crate::first_node;
 use crate::second_node;
+use edge_walk::edges_at;
 use graph::Color;
 use graph::EdgeIndex;
 use graph::NodeIndex;
-use graph::edges_at;
 
 // Whether an edge at the node leads to an item that has the colour. In each of its two groups a node's edges stand newest first, and
 // among equals the lowest item is coloured first: so the colour is mostly found sooner from the back.

@@ -18,11 +18,9 @@ use Rattle.graph.specs.declared.Refusal.{Refusal}
 use Rattle.graph.specs.declared.Graph.{Graph}
 use Rattle.graph.specs.declared.Checked.{Checked}
 use Rattle.graph.specs.declared.Checked.the-variants as C
-use Rattle.line_graph.specs.LineList.{linePairs, lineChecks, lineGraph}
+use Rattle.line_list.specs.LineList.{linePairs, lineChecks, lineGraph}
 use Rattle.line_graph.specs.WrittenPairs.{pairsBelow}
 use Rattle.line_graph.proofs.WrittenPairsLaws.{table-pairs}
--- No name of it is used: the rows are to be checked before the laws, so that a wrong definition is refused for what it gives.
-use Rattle.line_graph.specs.Examples
 
 -- A made table has at most 4,096 edges at a node.
 pub few-edges : (n : ℕ) (ends starts entries : List ℕ) → Passed n ends → Table ends n starts entries → (v : ℕ) → v < n → length (stretch starts entries v) ≤ 4096

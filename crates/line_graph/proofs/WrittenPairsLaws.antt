@@ -13,12 +13,10 @@ use Rattle.lists.specs.Parts.{part}
 use Rattle.graph.specs.Table.{over}
 use Rattle.graph.specs.Edges.{edgeCount}
 use Rattle.graph.specs.Stretch.{stretch, Table}
-use Rattle.line_graph.specs.LineList.{pairsWith, pairsOf, linePairs}
+use Rattle.line_list.specs.LineList.{pairsWith, pairsOf, linePairs}
 use Rattle.line_graph.specs.Placed.{placed}
 use Rattle.line_graph.proofs.PlacedLaws.{placed-none, placed-front, placed-store, Writing, writing-none, writing-more}
 use Rattle.line_graph.specs.WrittenPairs.{pairsBelow}
--- No name of it is used: the rows are to be checked before the laws, so that a wrong definition is refused for what it gives.
-use Rattle.line_graph.specs.Examples
 
 -- ---- what stands after some turns of each loop
 

@@ -1,7 +1,4 @@
--- The line list, and an edge's neighbours.
-pub mod LineList
-pub mod Examples
-pub mod LineNeighbors
+-- The line list as the call answers and writes it.
 pub mod LineReport
 pub mod Placed
 pub mod WrittenPairs

@@ -2,7 +2,7 @@
 use Prim.Native.Nat.{ℕ, zero, suc}
 use mathlib.Core.List.{List, [], _++_}
 use Rattle.graph.specs.Stretch.{stretch}
-use Rattle.line_graph.specs.LineList.{pairsOf}
+use Rattle.line_list.specs.LineList.{pairsOf}
 
 -- ---- what stands after some turns of each loop
 

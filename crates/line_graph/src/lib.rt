@@ -2,7 +2,7 @@
 ghost use mathlib.Core.Path.{_≡_};
 ghost use Rattle.graph.specs.Check.{Passed};
 ghost use Rattle.line_graph.specs.LineReport.{reportOfLineList};
-ghost use Rattle.line_graph.specs.LineList.{lineGraph};
+ghost use Rattle.line_list.specs.LineList.{lineGraph};
 use graph::Checked;
 use graph::EdgeIndex;
 use graph::NodeIndex;

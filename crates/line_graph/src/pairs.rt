@@ -4,12 +4,12 @@ ghost use Prim.Native.Nat.{ℕ, _+_, _*_, _≤_, _<_};
 ghost use lib.ListN.{length};
 ghost use Rattle.graph.specs.Stretch.{stretch};
 ghost use Rattle.graph.specs.Table.{over};
-ghost use Rattle.line_graph.specs.LineList.{pairsWith, pairsOf};
+ghost use Rattle.line_list.specs.LineList.{pairsWith, pairsOf};
 ghost use Rattle.line_graph.specs.Placed.{placed};
 ghost use Rattle.line_graph.specs.WrittenPairs.{pairsBelow};
+use edge_walk::edges_at;
 use graph::EdgeIndex;
 use graph::NodeIndex;
-use graph::edges_at;
 
 // The length of the whole list, from the degrees: d edges at a node have d * (d - 1) / 2 pairs.
 pub(crate) fn list_length(n: usize, starts: &[u16], entries: &[u16]) -> usize

@@ -1,9 +1,9 @@
 // The lines of the text.
 use crate::put::put_bytes;
 use crate::put::put_number;
+use edge_walk::end_at;
 use graph::EdgeIndex;
 use graph::NodeIndex;
-use graph::end_at;
 ghost use mathlib.Core.Path.{_≡_};
 ghost use Prim.Native.Nat.{_≤_};
 ghost use Rattle.graph.specs.Edges.{edgeCount};

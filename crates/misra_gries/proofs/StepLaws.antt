@@ -26,10 +26,10 @@ use Rattle.edge_table.specs.Repaint.{Repaintable}
 use Rattle.edge_table.proofs.RepaintLaws.{repaint-done}
 use Rattle.edge_table.specs.StepRepaint.{exchangedColors, rotatedColors}
 use Rattle.edge_table.proofs.StepRepaintLaws.{exchange-done, step-exchange, step-rotation}
-use Rattle.fan.specs.Front.{putFront}
-use Rattle.fan.proofs.NewColorsLaws.{exchanged-front}
-use Rattle.fan.specs.TablePath.{tablePath}
-use Rattle.fan.proofs.TablePathLaws.{path-none, path-ended, table-path}
+use Rattle.recolor.specs.Front.{putFront}
+use Rattle.recolor.proofs.NewColorsLaws.{exchanged-front}
+use Rattle.recolor.specs.TablePath.{tablePath}
+use Rattle.recolor.proofs.TablePathLaws.{path-none, path-ended, table-path}
 use Rattle.fan.specs.TablePlaces.{tablePlaces}
 use Rattle.fan.proofs.TablePlacesLaws.{table-places, places-taken}
 use Rattle.misra_gries.proofs.Range.{palette, max-degree-below}

@@ -1,12 +1,12 @@
 // The fan (step 1). The edges in it are those whose mark is the stamp of this step. Marks of earlier steps are lower, so none is
 // ever cleared. No candidate before a place `lo` can join any more, so every search starts there.
+use edge_walk::far_end;
 use fan::Joining;
 use fan::first_joining;
 use fan::set_mark;
 use fan::skip;
 use graph::EdgeIndex;
 use graph::NodeIndex;
-use graph::far_end;
 ghost use mathlib.Core.Path.{_≡_};
 ghost use Prim.Native.Nat.{ℕ, _≤_};
 ghost use lib.ListN.{length, getD, take};

@@ -12,16 +12,16 @@ use crate::grow::grow;
 use edge_table::is_free;
 use edge_table::repaint;
 use edge_table::smallest_free;
-use fan::follow;
+use edge_walk::edges_at;
+use edge_walk::end_at;
+use edge_walk::far_end;
 use fan::places_to;
-use fan::shift_colors;
-use fan::swap_colors;
 use graph::Color;
 use graph::EdgeIndex;
 use graph::NodeIndex;
-use graph::edges_at;
-use graph::end_at;
-use graph::far_end;
+use recolor::follow;
+use recolor::shift_colors;
+use recolor::swap_colors;
 
 // The path from the node along d, c, d and so on exchanges c and d; the answer is the number of its edges.
 fn exchange_edges(

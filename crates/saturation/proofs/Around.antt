@@ -14,7 +14,7 @@ use Rattle.graph.specs.Edges.{edgeCount, firstEnd, secondEnd, edgesAt, neighbor
 use Rattle.graph.proofs.EdgeLaws.{edge-at}
 use Rattle.graph.proofs.NeighborLaws.{neighbors-far-ends}
 use Rattle.graph.specs.Stretch.{stretch}
-use Rattle.line_graph.proofs.LineNeighborLaws.{line-neighbor-times, line-neighbor-times-loop}
+use Rattle.line_list.proofs.LineNeighborLaws.{line-neighbor-times, line-neighbor-times-loop}
 use Rattle.greedy.proofs.GreedyLaws.{edge-neighbors}
 use Rattle.items.specs.declared.Kind.{Kind}
 use Rattle.items.specs.declared.Kind.the-variants.{Nodes, Edges}

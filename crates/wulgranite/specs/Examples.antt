@@ -5,7 +5,7 @@ use mathlib.Core.Path.{_≡_}
 use Rattle.lists.proofs.Tests.{true-and}
 use Rattle.graph.specs.Rows.{Row, allHold, rows-append}
 use Rattle.two_color.specs.Examples as two-color
-use Rattle.line_graph.specs.Examples as line-graph
+use Rattle.line_list.specs.Examples as line-graph
 use Rattle.greedy.specs.Examples as greedy
 use Rattle.vizing.specs.Answers as misra-gries
 

@@ -3,20 +3,20 @@
 // among which `ColoringStrategy` chooses, the smallest free colour of a node and of an edge (greedy), nodes or edges as
 // items (items), the steps of Misra-Gries (edge_table, fan), `incidence_front`, `days_of`, `copy_colors`, `end_at` and `step_at`.
 // `matchday_text` is left out too: its text is the program's, not a colouring.
+pub use edge_walk::EdgeWalk;
+pub use edge_walk::WalkStep;
+pub use edge_walk::edge_at;
+pub use edge_walk::edges_at;
+pub use edge_walk::far_end;
 pub use graph::Checked;
 pub use graph::Color;
 pub use graph::Coloring;
 pub use graph::EdgeIndex;
-pub use graph::EdgeWalk;
 pub use graph::Graph;
 pub use graph::IncidenceAnswer;
 pub use graph::NodeIndex;
 pub use graph::Refusal;
-pub use graph::WalkStep;
 pub use graph::check_graph;
-pub use graph::edge_at;
-pub use graph::edges_at;
-pub use graph::far_end;
 pub use graph_file::FileAnswer;
 pub use graph_file::read_graph_file;
 pub use greedy::ColoringStrategy;

@@ -6,7 +6,7 @@ use native.Mathlib.Omega.{arith}
 use lib.ListN.{length, drop, replicate}
 use lib.Seq.{length-take-le}
 use borrow.Author.Needs.{needs}
-use Rattle.fan.proofs.TablePathLaws.{path-written}
+use Rattle.recolor.proofs.TablePathLaws.{path-written}
 use Rattle.misra_gries.proofs.StepLaws.{Followed, path-followed, path-exchanged}
 use Rattle.misra_gries.proofs.steps.exchange_edges.Statement.{statement}
 use Rattle.misra_gries.proofs.steps.exchange_edges.Tie as tie

@@ -4,7 +4,7 @@ use mathlib.Core.Path.{refl, sym}
 use native.Mathlib.Omega.{arith}
 use lib.ListN.{length, replicate}
 use lib.Seq.{length-take-le}
-use Rattle.fan.proofs.TablePathLaws.{path-written}
+use Rattle.recolor.proofs.TablePathLaws.{path-written}
 use Rattle.misra_gries.proofs.StepLaws.{Followed, path-few, path-exchanged}
 use Rattle.misra_gries.proofs.steps.exchange_few.Statement.{statement}
 use Rattle.misra_gries.proofs.steps.exchange_few.Tie as tie

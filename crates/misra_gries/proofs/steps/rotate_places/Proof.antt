@@ -1,6 +1,6 @@
 -- `rotate_places` meets its contract: the new colours are read, then the fan's places take them.
 use borrow.Author.Needs.{needs}
-use Rattle.fan.proofs.NewColorsLaws.{shifted-front}
+use Rattle.recolor.proofs.NewColorsLaws.{shifted-front}
 use Rattle.misra_gries.proofs.StepLaws.{rotated-length, fan-rotated}
 use Rattle.misra_gries.proofs.steps.rotate_places.Statement.{statement}
 use Rattle.misra_gries.proofs.steps.rotate_places.Tie as tie

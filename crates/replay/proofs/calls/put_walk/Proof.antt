@@ -5,7 +5,7 @@ use lib.ListN.{length}
 use borrow.Author.Needs.{needs}
 use native.Mathlib.Omega.{arith}
 use Rattle.graph.specs.Stretch.{stretch}
-use Rattle.graph.proofs.WalkLaws.{step-edge}
+use Rattle.edge_walk.proofs.WalkLaws.{step-edge}
 use Rattle.replay.proofs.calls.put_walk.Statement.{statement}
 use Rattle.replay.proofs.calls.put_walk.Tie as tie
 

@@ -1,0 +1,2 @@
+-- What a step of a walk tells.
+pub mod WalkLaws

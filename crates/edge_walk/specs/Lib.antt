@@ -1,0 +1,2 @@
+-- A walk over one node's edges.
+pub mod Walk

@@ -1,0 +1,4 @@
+-- The line list, and an edge's neighbours.
+pub mod LineList
+pub mod Examples
+pub mod LineNeighbors

@@ -1,0 +1,4 @@
+-- Laws of what specs/ defines.
+pub mod FrontLaws
+pub mod NewColorsLaws
+pub mod TablePathLaws
