@@ -1,8 +1,8 @@
 -- `strategy_of` meets its contract: each arm's number is the strategy's.
 use borrow.Author.Needs.{needs}
-use Rattle.capi.proofs.StrategyLaws.{names-degree, names-saturation, names-independent-set, names-none}
-use Rattle.capi.proofs.strategy.strategy_of.Statement.{statement}
-use Rattle.capi.proofs.strategy.strategy_of.Tie as tie
+use Rattle.c_answer.proofs.StrategyLaws.{names-degree, names-saturation, names-independent-set, names-none}
+use Rattle.c_answer.proofs.strategy.strategy_of.Statement.{statement}
+use Rattle.c_answer.proofs.strategy.strategy_of.Tie as tie
 
 returns : tie.Need-returns
 returns c = search (needs, names-degree)

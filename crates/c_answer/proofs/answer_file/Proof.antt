@@ -1,8 +1,8 @@
 -- `answer_file` meets its contract: each case of the answer is told as its report.
 use borrow.Author.Needs.{needs}
-use Rattle.capi.proofs.AnswerLaws.{file-accepted, file-refused}
-use Rattle.capi.proofs.answer_file.Statement.{statement}
-use Rattle.capi.proofs.answer_file.Tie as tie
+use Rattle.c_answer.proofs.AnswerLaws.{file-accepted, file-refused}
+use Rattle.c_answer.proofs.answer_file.Statement.{statement}
+use Rattle.c_answer.proofs.answer_file.Tie as tie
 
 returns : tie.Need-returns
 returns c = file-accepted (_, _, _) (_, _, _) _ (c .before .file .given .1)

@@ -8,7 +8,7 @@ use Rattle.graph.specs.Color.{Outcome}
 use Rattle.graph_file.specs.Report.{reportOfFile}
 use Rattle.graph_file.specs.declared.FileAnswer.{FileAnswer}
 use Rattle.graph_file.specs.declared.FileAnswer.the-variants as F
-use Rattle.capi.specs.Answer.{code, valueOr, partOr, Read, nodesRead, edgesRead, tagsRead}
+use Rattle.c_answer.specs.Answer.{code, valueOr, partOr, Read, nodesRead, edgesRead, tagsRead}
 
 -- What C is told of a colouring: the number, the colours, and what the pointer to the days holds, before and after.
 abbrev pub Answered : Outcome → ℕ → ℕ → ℕ → List ℕ → Type 0

@@ -1,9 +1,9 @@
 // The strategies by number.
 ghost use mathlib.Core.Path.{_≡_};
 ghost use Rattle.graph.specs.Report.{reportOfChecked};
-ghost use Rattle.capi.specs.Strategy.{strategyOf, strategyNamed, codeOfUnknown};
-use wulgranite::Checked;
-use wulgranite::ColoringStrategy;
+ghost use Rattle.c_answer.specs.Strategy.{strategyOf, strategyNamed, codeOfUnknown};
+use graph::Checked;
+use greedy::ColoringStrategy;
 
 // What a number names.
 pub enum StrategyNumber {
@@ -11,7 +11,7 @@ pub enum StrategyNumber {
     Unknown,
 }
 
-pub(crate) fn strategy_of(number: u8) -> StrategyNumber
+pub fn strategy_of(number: u8) -> StrategyNumber
     ensures answer { λ r. ⌜ strategyNamed r ≡ strategyOf number ⌝ }
 {
     match number {
@@ -23,7 +23,7 @@ pub(crate) fn strategy_of(number: u8) -> StrategyNumber
 }
 
 // The answer where no strategy has the number: that of the checks comes first.
-pub(crate) fn unknown_strategy(checked: Checked) -> u32
+pub fn unknown_strategy(checked: Checked) -> u32
     ensures answer { λ r. ⌜ r ≡ codeOfUnknown (reportOfChecked checked) ⌝ }
 {
     match checked {
