@@ -18,10 +18,6 @@ use greedy::smallest_edge_color;
 use line_graph::edge_of_node;
 use line_graph::node_of_edge;
 
-mod marks;
-
-pub use marks::mark_used;
-
 // Which items are coloured.
 pub enum Kind {
     Nodes,
