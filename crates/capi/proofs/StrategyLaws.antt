@@ -1,11 +1,10 @@
--- Laws of a strategy named by a number: one for each answer of the code.
+-- Laws of a call by the strategy of a number: one for each answer of the code.
 use Prim.Native.Nat.{ℕ}
 use mathlib.Core.Bool.{true}
 use mathlib.Core.List.{List, [], _∷_, _++_}
 use mathlib.Core.Option.{Option, none, some}
 use mathlib.Core.Path.{_≡_, refl, sym, ap, subst, _∙_}
 use lib.ListN.{length}
-use borrow.Author.Tests.{ne-eqb}
 use Rattle.graph.specs.Report.{Report, refused, reportOfChecked}
 use Rattle.graph.specs.Check.{Check, _gives_, firstRefusal, answered}
 use Rattle.graph.proofs.CheckLaws.{refused-first, passed-first, first-refuses, answered-refused, answered-accepted, written-refused}
@@ -14,30 +13,12 @@ use Rattle.graph.specs.Edges.{edgeCount}
 use Rattle.graph.specs.declared.Checked.{Checked}
 use Rattle.greedy.specs.Call.{Rule, ruleOf, itemChecks, checkItems, checkNodes, checkEdges, greedyNodes, greedyEdges}
 use Rattle.greedy.specs.declared.ColoringStrategy.{ColoringStrategy}
-use Rattle.greedy.specs.declared.ColoringStrategy.the-variants as S
-use Rattle.capi.specs.Answer.{code, valueOr}
-use Rattle.capi.proofs.AnswerLaws.{Answered, answered-by}
-use Rattle.capi.specs.Strategy.{strategyOf, strategyNamed, unknownStrategy, byNumber, nodesByNumber, edgesByNumber, codeOfUnknown}
-use Rattle.capi.specs.declared.strategy.StrategyNumber.{StrategyNumber}
-use Rattle.capi.specs.declared.strategy.StrategyNumber.the-variants as N
-
--- ---- what a number names
-
-pub names-degree : (number : ℕ) → number ≡ 0 → some S.Degree ≡ strategyOf number
-unfolding strategyOf
-names-degree number e = simp e
-
-pub names-saturation : (number : ℕ) → number ≡ 1 → some S.Saturation ≡ strategyOf number
-unfolding strategyOf
-names-saturation number e = simp e
-
-pub names-independent-set : (number : ℕ) → number ≡ 2 → some S.IndependentSet ≡ strategyOf number
-unfolding strategyOf
-names-independent-set number e = simp e
-
-pub names-none : (number : ℕ) → (number ≡ 0 → ⊥) → (number ≡ 1 → ⊥) → (number ≡ 2 → ⊥) → none ≡ strategyOf number
-unfolding strategyOf
-names-none number a b c = simp (ne-eqb _ _ a, ne-eqb _ _ b, ne-eqb _ _ c)
+use Rattle.c_answer.specs.Answer.{code, valueOr}
+use Rattle.c_answer.specs.Strategy.{strategyOf, strategyNamed, codeOfUnknown}
+use Rattle.c_answer.specs.declared.strategy.StrategyNumber.{StrategyNumber}
+use Rattle.c_answer.specs.declared.strategy.StrategyNumber.the-variants as N
+use Rattle.c_answer.proofs.AnswerLaws.{Answered, answered-by}
+use Rattle.capi.specs.Strategy.{unknownStrategy, byNumber, nodesByNumber, edgesByNumber}
 
 -- ---- the call by a number
 

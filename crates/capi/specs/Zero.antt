@@ -21,8 +21,9 @@ use Rattle.greedy.specs.Call.{Rule, ruleOf, itemChecks, greedyItems, greedyItem
 use Rattle.greedy.specs.declared.ColoringStrategy.{ColoringStrategy}
 use Rattle.vizing.specs.MisraGries.{misraGriesChecks, misraGries}
 use Rattle.graph_file.specs.File.{fileChecks, readFile}
-use Rattle.capi.specs.Answer.{code}
-use Rattle.capi.specs.Strategy.{strategyOf, unknownStrategy, byNumber, nodesByNumber, edgesByNumber}
+use Rattle.c_answer.specs.Answer.{code}
+use Rattle.c_answer.specs.Strategy.{strategyOf}
+use Rattle.capi.specs.Strategy.{unknownStrategy, byNumber, nodesByNumber, edgesByNumber}
 
 -- Every check of a list refuses by a number above 0.
 abbrev aboveZero : List Check → Bool

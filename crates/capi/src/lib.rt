@@ -1,87 +1,22 @@
 // The C interface. Each call answers 0 where it accepted, or the refusal's number, and hands its report back through a pointer,
 // which is unchanged on a refusal. include/wulgranite.h declares these functions for C.
 ghost use mathlib.Core.Path.{_≡_};
-ghost use Rattle.graph.specs.Report.{reportOfIncidence, reportOfColoring};
 ghost use Rattle.graph.specs.Table.{incidenceOf};
 ghost use Rattle.two_color.specs.TwoColor.{twoColor};
-ghost use Rattle.line_graph.specs.LineReport.{reportOfLineList};
 ghost use Rattle.line_list.specs.LineList.{lineGraph};
 ghost use Rattle.greedy.specs.Degree.{degreeColors};
 ghost use Rattle.greedy.specs.Call.{greedyNodes, greedyNodesPlain, greedyEdgesPlain};
 ghost use Rattle.vizing.specs.MisraGries.{misraGries};
-ghost use Rattle.graph_file.specs.Report.{reportOfFile};
 ghost use Rattle.graph_file.specs.File.{readFile};
-ghost use Rattle.capi.specs.Answer.{code, valueOr, partOr, nodesRead, edgesRead, tagsRead};
+ghost use Rattle.c_answer.specs.Answer.{code, valueOr, partOr, nodesRead, edgesRead, tagsRead};
 ghost use Rattle.capi.specs.Strategy.{nodesByNumber, edgesByNumber};
-use strategy::StrategyNumber;
-use strategy::strategy_of;
-use strategy::unknown_strategy;
-use wulgranite::Coloring;
-use wulgranite::FileAnswer;
-use wulgranite::IncidenceAnswer;
-use wulgranite::LineList;
-
-mod strategy;
-
-fn answer_coloring(coloring: Coloring, days: &mut usize) -> u32
-    ensures answer { λ r. ⌜ r ≡ code (reportOfColoring coloring) ⌝ }
-    ensures days { λ _. ⌜ now (days .exit) ≡ valueOr (now (days .entry)) (reportOfColoring coloring) ⌝ }
-{
-    match coloring {
-        Coloring::Accepted { days: counted } => {
-            *days = counted;
-            0
-        }
-        Coloring::Refused(refusal) => refusal.number(),
-    }
-}
-
-fn answer_incidence(incidence: IncidenceAnswer, total: &mut usize) -> u32
-    ensures answer { λ r. ⌜ r ≡ code (reportOfIncidence incidence) ⌝ }
-    ensures total { λ _. ⌜ now (total .exit) ≡ valueOr (now (total .entry)) (reportOfIncidence incidence) ⌝ }
-{
-    match incidence {
-        IncidenceAnswer::Accepted { total: counted } => {
-            *total = counted;
-            0
-        }
-        IncidenceAnswer::Refused(refusal) => refusal.number(),
-    }
-}
-
-fn answer_line_list(list: LineList, pairs: &mut usize) -> u32
-    ensures answer { λ r. ⌜ r ≡ code (reportOfLineList list) ⌝ }
-    ensures pairs { λ _. ⌜ now (pairs .exit) ≡ valueOr (now (pairs .entry)) (reportOfLineList list) ⌝ }
-{
-    match list {
-        LineList::Accepted { pairs: counted } => {
-            *pairs = counted;
-            0
-        }
-        LineList::Refused(refusal) => refusal.number(),
-    }
-}
-
-fn answer_file(file: FileAnswer, nodes: &mut usize, edges: &mut usize, tags: &mut usize) -> u32
-    ensures answer { λ r. ⌜ r ≡ code (reportOfFile file) ⌝ }
-    ensures nodes { λ _. ⌜ now (nodes .exit) ≡ partOr nodesRead (now (nodes .entry)) (reportOfFile file) ⌝ }
-    ensures edges { λ _. ⌜ now (edges .exit) ≡ partOr edgesRead (now (edges .entry)) (reportOfFile file) ⌝ }
-    ensures tags { λ _. ⌜ now (tags .exit) ≡ partOr tagsRead (now (tags .entry)) (reportOfFile file) ⌝ }
-{
-    match file {
-        FileAnswer::Accepted {
-            nodes: n,
-            edges: m,
-            tags: stood,
-        } => {
-            *nodes = n;
-            *edges = m;
-            *tags = stood as usize;
-            0
-        }
-        FileAnswer::Refused(refusal) => refusal.number(),
-    }
-}
+use c_answer::StrategyNumber;
+use c_answer::answer_coloring;
+use c_answer::answer_file;
+use c_answer::answer_incidence;
+use c_answer::answer_line_list;
+use c_answer::strategy_of;
+use c_answer::unknown_strategy;
 
 #[no_mangle]
 pub extern "C" fn wg_incidence(

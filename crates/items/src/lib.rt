@@ -18,10 +18,6 @@ use line_graph::node_of_edge;
 use smallest_color::smallest_color;
 use smallest_color::smallest_edge_color;
 
-mod marks;
-
-pub use marks::mark_used;
-
 // Which items are coloured.
 pub enum Kind {
     Nodes,

@@ -20,8 +20,8 @@ use Rattle.items.specs.declared.Kind.{Kind}
 use Rattle.items.specs.declared.Kind.the-variants.{Nodes, Edges}
 use Rattle.items.specs.Items.{firstNode, secondNode, acrossOf, neighborsOf, Tabled}
 use Rattle.items.proofs.ItemsLaws.{first-inside, second-inside, across-inside}
-use Rattle.items.specs.Around.{acrossAll, along, around}
-use Rattle.items.proofs.AroundLaws.{around-one, around-two}
+use Rattle.color_marks.specs.Around.{acrossAll, along, around}
+use Rattle.color_marks.proofs.AroundLaws.{around-one, around-two}
 use Rattle.saturation.specs.Notes.{Noted, Room}
 use Rattle.saturation.proofs.NotesLaws.{noted-more, room-first, room-left}
 

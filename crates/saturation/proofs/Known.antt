@@ -19,14 +19,14 @@ use Rattle.graph.proofs.ColoredLaws.{color-read, color-outside}
 use Rattle.items.specs.declared.Kind.{Kind}
 use Rattle.items.specs.Items.{firstNode, secondNode, acrossOf, neighborsOf, Sized, Tabled}
 use Rattle.items.proofs.ItemsLaws.{items-few, across-inside, first-inside, second-inside, NodeOf, neighbor-leading, leading-neighbor}
-use Rattle.items.proofs.StandingLaws.{stands-item, item-stands}
-use Rattle.items.specs.Stored.{stored}
-use Rattle.items.proofs.StoredLaws.{stored-here}
-use Rattle.items.specs.Around.{around}
-use Rattle.items.specs.Marks.{stands, markOf}
-use Rattle.items.proofs.MarksLaws.{bare-mark}
-use Rattle.items.specs.Used.{usedMarks}
-use Rattle.items.proofs.UsedLaws.{used-yes, used-no}
+use Rattle.color_marks.proofs.StandingLaws.{stands-item, item-stands}
+use Rattle.color_marks.specs.Stored.{stored}
+use Rattle.color_marks.proofs.StoredLaws.{stored-here}
+use Rattle.color_marks.specs.Around.{around}
+use Rattle.color_marks.specs.Marks.{stands, markOf}
+use Rattle.color_marks.proofs.MarksLaws.{bare-mark}
+use Rattle.color_marks.specs.Used.{usedMarks}
+use Rattle.color_marks.proofs.UsedLaws.{used-yes, used-no}
 use Rattle.saturation.proofs.CountsLaws.{colorsAmong, color-among, among-color}
 
 -- An item among us that has no colour is marked if the colour stands on its neighbours.

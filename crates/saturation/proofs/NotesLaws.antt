@@ -15,8 +15,8 @@ use Rattle.graph.specs.Colored.{colorOf}
 use Rattle.graph.proofs.ColoredLaws.{color-read}
 use Rattle.items.specs.declared.Kind.{Kind}
 use Rattle.items.specs.Items.{acrossOf}
-use Rattle.items.specs.Around.{acrossAll}
-use Rattle.items.proofs.AroundLaws.{across-more}
+use Rattle.color_marks.specs.Around.{acrossAll}
+use Rattle.color_marks.proofs.AroundLaws.{across-more}
 use Rattle.saturation.specs.Notes.{NotedTimes, Noted, Room}
 
 pub none-noted : (s w m : ℕ) → NotedTimes 0 s w m s w m

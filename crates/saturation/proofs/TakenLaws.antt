@@ -23,9 +23,9 @@ use Rattle.saturation.proofs.CountsLaws.{colorsAmong, count-mem, mem-co
 use Rattle.saturation.specs.Notes.{Noted, Room}
 use Rattle.saturation.proofs.NotesLaws.{none-noted}
 use Rattle.saturation.proofs.Known.{Known, known}
-use Rattle.items.specs.Around.{around}
-use Rattle.items.specs.Stored.{stored}
-use Rattle.items.specs.Marks.{markOf}
+use Rattle.color_marks.specs.Around.{around}
+use Rattle.color_marks.specs.Stored.{stored}
+use Rattle.color_marks.specs.Marks.{markOf}
 use Rattle.saturation.proofs.Around.{around-times}
 use Rattle.saturation.specs.Taken.{Ready}
 

@@ -1,6 +1,6 @@
 -- `wg_greedy_edge_color` meets its contract: the report of `greedy_edge_color` is the one answered.
 use borrow.Author.Needs.{needs}
-use Rattle.capi.proofs.AnswerLaws.{answered-by}
+use Rattle.c_answer.proofs.AnswerLaws.{answered-by}
 use Rattle.capi.proofs.wg_greedy_edge_color.Statement.{statement}
 use Rattle.capi.proofs.wg_greedy_edge_color.Tie as tie
 

@@ -1,6 +1,6 @@
 -- `wg_greedy_node_color_with_preset_colors` meets its contract: the report of `greedy_node_color_with_preset_colors` is the one answered.
 use borrow.Author.Needs.{needs}
-use Rattle.capi.proofs.AnswerLaws.{answered-by}
+use Rattle.c_answer.proofs.AnswerLaws.{answered-by}
 use Rattle.capi.proofs.wg_greedy_node_color_with_preset_colors.Statement.{statement}
 use Rattle.capi.proofs.wg_greedy_node_color_with_preset_colors.Tie as tie
 

@@ -1,6 +1,6 @@
 -- `wg_incidence` meets its contract: the report of `incidence` is the one answered.
 use borrow.Author.Needs.{needs}
-use Rattle.capi.proofs.AnswerLaws.{told}
+use Rattle.c_answer.proofs.AnswerLaws.{told}
 use Rattle.capi.proofs.wg_incidence.Statement.{statement}
 use Rattle.capi.proofs.wg_incidence.Tie as tie
 

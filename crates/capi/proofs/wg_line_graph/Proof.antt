@@ -1,6 +1,6 @@
 -- `wg_line_graph` meets its contract: the report of `line_graph` is the one answered.
 use borrow.Author.Needs.{needs}
-use Rattle.capi.proofs.AnswerLaws.{told}
+use Rattle.c_answer.proofs.AnswerLaws.{told}
 use Rattle.capi.proofs.wg_line_graph.Statement.{statement}
 use Rattle.capi.proofs.wg_line_graph.Tie as tie
 

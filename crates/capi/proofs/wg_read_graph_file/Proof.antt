@@ -1,6 +1,6 @@
 -- `wg_read_graph_file` meets its contract: the report of `read_graph_file` is the one answered.
 use borrow.Author.Needs.{needs}
-use Rattle.capi.proofs.AnswerLaws.{told-file}
+use Rattle.c_answer.proofs.AnswerLaws.{told-file}
 use Rattle.capi.proofs.wg_read_graph_file.Statement.{statement}
 use Rattle.capi.proofs.wg_read_graph_file.Tie as tie
 

@@ -5,7 +5,7 @@ use mathlib.Core.Path.{_≡_, refl}
 use native.Mathlib.Omega.{arith}
 use lib.ListN.{length, take}
 use borrow.Author.Needs.{needs}
-use Rattle.items.specs.Around.{acrossAll}
+use Rattle.color_marks.specs.Around.{acrossAll}
 use Rattle.saturation.specs.Notes.{Noted}
 use Rattle.saturation.proofs.NotesLaws.{notes-none, notes-room, notes-more, notes-all}
 use Rattle.saturation.proofs.counts.note_all.Statement.{statement}

@@ -1,0 +1,50 @@
+-- `mark_along` meets its contract. The invariant: the items along the edges passed have their marks.
+-- The measure: what is left to go over, length edges - i; each turn goes on by one.
+use Prim.Native.Nat.{_≤_, _-_}
+use mathlib.Core.Path.{_≡_, refl}
+use native.Mathlib.Omega.{arith}
+use lib.ListN.{length, take}
+use borrow.Author.Needs.{needs}
+use Rattle.color_marks.specs.Around.{acrossAll}
+use Rattle.color_marks.specs.Stored.{stored}
+use Rattle.color_marks.proofs.StoredLaws.{along-none, along-more, along-outside, along-all}
+use Rattle.color_marks.specs.Marks.{markOf, Asked}
+use Rattle.color_marks.proofs.mark_along.Statement.{statement}
+use Rattle.color_marks.proofs.mark_along.Tie as tie
+
+abbrev Inv-loop : tie.InvT-loop
+Inv-loop kind ends starts entries edges colors color at₀ marks₀ node i₀ at marks i = (i ≤ length edges) × (length at ≡ length at₀) × (length marks ≡ length marks₀) × Asked kind ends starts entries colors (color .0) at × (marks ≡ stored (markOf kind ends starts entries colors (color .0)) (acrossAll kind ends (node .0) (take i edges)) marks₀)
+
+abbrev μ-loop : tie.MeasureT-loop
+μ-loop kind ends starts entries edges colors color at₀ marks₀ node i₀ at marks i = length edges - i
+
+loop-holds : tie.Need-loop-holds Inv-loop μ-loop
+loop-holds c = (omega arith, refl, refl, c .before .before .before .before .before .before .before .pre, along-none _ _ _ _ (c .before .before .before .before .before .before .before .args .edges .now) _)
+
+item-mark-requires : tie.Need-item-mark-requires Inv-loop μ-loop
+item-mark-requires c κs = c .before .before .before .before .loop .inv .3
+
+loop-again : tie.Need-loop-again Inv-loop μ-loop
+loop-again c = (omega (arith, c .before .before .before .before .before .before .before .before .loop-test .taken), search needs, search needs, c .before .before .before .before .item-mark .ensures .1, along-more _ _ _ _ _ _ _ _ (c .before .before .before .before .before .before .before .before .before .loop .inv .4) (c .before .before .before .before .before .before .before .before .loop-test .taken) _ _ (c .before .before .before .before .before .before .across .ensures) (c .before .before .before .before .item-mark .ensures .0))
+
+loop-again-2 : tie.Need-loop-again-2 Inv-loop μ-loop
+loop-again-2 c = (omega (arith, c .before .before .before .before .before .before .before .before .loop-test .taken), search needs, search needs, c .before .before .before .before .item-mark .ensures .1, along-outside _ _ _ _ _ _ _ _ (c .before .before .before .before .before .before .before .before .before .loop .inv .4) (c .before .before .before .before .before .before .before .before .loop-test .taken) _ (c .before .before .before .before .before .before .across .ensures) (c .if1 .left))
+
+returns : tie.Need-returns Inv-loop μ-loop
+returns c = (along-all _ _ _ _ _ _ _ _ (c .before .loop .inv .4) (c .before .loop .inv .0) (c .loop-test .left), c .before .loop .inv .3)
+
+pub mark-along-spec : {M : Type 1} → statement M
+mark-along-spec =
+    tie.close
+    (tie.spec
+    Inv-loop
+    μ-loop
+    loop-holds
+    (λ c. search needs) (λ c. search needs) (λ c κs. search needs) (λ c. search needs)
+    item-mark-requires
+    (λ c. search needs) (λ c. search needs) (λ c. search needs)
+    loop-again
+    (λ c. search needs)
+    loop-again-2
+    (λ c. search needs) (λ c. search needs)
+    returns)
