@@ -14,7 +14,7 @@ use Rattle.graph.specs.Check.{Passed}
 use Rattle.graph.proofs.CheckLaws.{passed-inside}
 use Rattle.graph.specs.Edges.{edgeCount, firstEnd, secondEnd, farEnd, At}
 use Rattle.graph.proofs.EdgeLaws.{far-first, far-second}
-use Rattle.vizing.proofs.Demand3Laws.{max-degree-bound}
+use Rattle.vizing.proofs.Theorem.{max-degree-bound}
 use Rattle.vizing.specs.Clause.{VizingColoring}
 use Rattle.greedy.specs.Call.{PrecoloringKept, ProperNodeColoring, ProperEdgeColoring}
 use Rattle.two_color.specs.Odd.{isOdd}

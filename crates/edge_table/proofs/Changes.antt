@@ -18,7 +18,7 @@ use Rattle.vizing.specs.MisraGries.{edgeOfColor}
 use Rattle.graph.proofs.ColoredLaws.{color-set-same, color-set-other}
 use Rattle.vizing.proofs.DefinitionLaws.{some-or-none, edge-of-color-some, edge-of-color-none, none-has-none}
 use Rattle.vizing.specs.Coloring.{Free}
-use Rattle.vizing.proofs.ColoringLaws.{color-edge, uncolor-edge}
+use Rattle.vizing.proofs.AlternatingPath.{color-edge, uncolor-edge}
 use Rattle.vizing.specs.Simple.{Incident}
 use Rattle.edge_table.specs.EdgeTable.{noEdge, edgeOfEntry, entryAt, tableEdge, enteredAtEnds, state, uncolored, colored}
 use Rattle.edge_table.proofs.EdgeTableLaws.{reads-none, reads-edge, length-entered-at-ends, entry-at-end, entry-elsewhere}

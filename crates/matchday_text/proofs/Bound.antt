@@ -19,10 +19,8 @@ use Rattle.graph.specs.Colored.{colorOf}
 use Rattle.graph.proofs.ColoredLaws.{color-read}
 use Rattle.vizing.specs.MisraGries.{misraGries, misraGriesChecks, held}
 use Rattle.vizing.specs.Demand3.{Admitted}
-use Rattle.vizing.proofs.Demand3Laws.{max-degree-bound}
+use Rattle.vizing.proofs.Theorem.{max-degree-bound, passed-admitted, demand3, misra-gries-colors}
 use Rattle.vizing.proofs.DefinitionLaws.{some-or-none}
-use Rattle.vizing.proofs.Checks.{passed-admitted}
-use Rattle.vizing.proofs.Theorem.{demand3, misra-gries-colors}
 use Rattle.matchday_text.specs.Text.{followed, decimal, line, edgeLine, edgeLines, daysText, refusedText, reportText, outcomeText, coloredText, daysWord, refusedWord, space, lineFeed}
 use Rattle.matchday_text.proofs.Decimal.{decimal-length}
 

@@ -8,9 +8,9 @@ use lib.ListN.{replicate}
 use Rattle.graph.specs.Color.{daysOf, noColor}
 use Rattle.graph_file.specs.File.{fileOf, fields, fieldsUpTo, graphOf}
 use Rattle.graph_file.proofs.LayoutLaws.{read-bytes}
-use Rattle.vizing.proofs.Checks.{checks-pass}
+use Rattle.vizing.proofs.Theorem.{checks-pass}
 use Rattle.vizing.specs.Demand3Examples.{listP13}
-use Rattle.vizing.proofs.Demand3ExamplesLaws.{p13-admitted, p13-colors, runs}
+use Rattle.vizing.proofs.ClauseLaws.{p13-admitted, p13-colors, runs}
 use Rattle.matchday_text.specs.Text.{digits, decimal, followed, daysText, refusedText, coloredText}
 use Rattle.matchday_text.proofs.Bound.{accepts}
 use Rattle.matchday_text.proofs.FileText.{file-text, no-file-text}

@@ -20,7 +20,7 @@ use Rattle.vizing.specs.MisraGries.{held, simpleChecks, misraGriesChecks, misra
 use Rattle.vizing.specs.Demand3.{Admitted}
 use Rattle.vizing.specs.Clause.{VizingColoring}
 use Rattle.vizing.proofs.ClauseLaws.{misra-gries-clause}
-use Rattle.vizing.proofs.Checks.{simple-admitted}
+use Rattle.vizing.proofs.Theorem.{simple-admitted}
 use Rattle.simple_graph.specs.Simple.{checkSimple}
 use Rattle.simple_graph.proofs.SimpleLaws.{simple-refused, simple-accepted}
 

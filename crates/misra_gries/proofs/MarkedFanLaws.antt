@@ -22,8 +22,7 @@ use Rattle.vizing.proofs.StepForm.{growFan, fan-form}
 use Rattle.graph.proofs.ColoredLaws.{is-colored-true}
 use Rattle.vizing.proofs.DefinitionLaws.{first-joining-some}
 use Rattle.vizing.specs.Simple.{Incident}
-use Rattle.vizing.proofs.Fan.{fan-at}
-use Rattle.vizing.proofs.FanGrowth.{Grown, grown-fan, fan-nodup, fan-grown, fan-length}
+use Rattle.vizing.proofs.Fan.{fan-at, Grown, grown-fan, fan-nodup, fan-grown, fan-length}
 use Rattle.edge_table.specs.EdgeTable.{isEmpty}
 use Rattle.graph.specs.declared.EdgeIndex.{EdgeIndex}
 use Rattle.fan.specs.declared.candidates.Joining.{Joining}

@@ -4,9 +4,9 @@ use mathlib.Core.List.{List}
 use native.Mathlib.Omega.{arith}
 use Rattle.graph.specs.Edges.{edgeCount}
 use Rattle.vizing.specs.Demand3.{Admitted, maxDegree}
-use Rattle.vizing.proofs.Demand3Laws.{degree-max, max-degree-bound, max-degree-attained}
-use Rattle.vizing.proofs.Palette.{Palette, degree-palette}
-use Rattle.vizing.proofs.SimpleDegree.{degree-below}
+use Rattle.vizing.proofs.Theorem.{degree-max, max-degree-bound, max-degree-attained}
+use Rattle.vizing.proofs.StepLaws.{Palette, degree-palette}
+use Rattle.vizing.proofs.SimpleLaws.{degree-below}
 use Rattle.misra_gries.specs.Step.{InRange}
 
 pub palette : (n : ℕ) (ends : List ℕ) → Admitted n ends → Palette ends (edgeCount ends) n (InRange n ends)

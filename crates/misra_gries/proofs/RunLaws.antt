@@ -14,11 +14,10 @@ use Rattle.graph.specs.Color.{daysOf, noColor}
 use Rattle.graph.specs.Stretch.{Table}
 use Rattle.vizing.specs.MisraGries.{greatestColor, step, stepHeld, heldAfter, held, find}
 use Rattle.vizing.specs.Demand3.{Admitted}
-use Rattle.vizing.proofs.Demand3Laws.{max-degree-bound}
+use Rattle.vizing.proofs.Theorem.{max-degree-bound}
 use Rattle.vizing.specs.Step.{Invariant}
-use Rattle.vizing.proofs.Run.{run-keeps}
-use Rattle.vizing.proofs.Greatest.{greatest-step}
-use Rattle.vizing.proofs.Tally.{tally-same, tally-edges, tally-greatest}
+use Rattle.vizing.proofs.StepLaws.{run-keeps}
+use Rattle.vizing.proofs.Tally.{greatest-step, tally-same, tally-edges, tally-greatest}
 use Rattle.vizing.specs.MisraGries as definition
 use Rattle.edge_table.specs.TableOf.{FitsTable}
 use Rattle.edge_table.proofs.TableOfLaws.{start-table}

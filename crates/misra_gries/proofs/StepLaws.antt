@@ -10,15 +10,14 @@ use lib.Seq.{length-take-le, take-append-le}
 use borrow.Author.Tests.{eq-eqb, ne-eqb}
 use Rattle.graph.specs.Edges.{edgeCount, firstEnd, secondEnd, farEnd, edgesAt, degree}
 use Rattle.graph.specs.Stretch.{stretch}
-use Rattle.vizing.proofs.SimpleDegree.{degree-below}
+use Rattle.vizing.proofs.SimpleLaws.{degree-below}
 use Rattle.misra_gries.specs.MarkedFan.{FanReady}
 use Rattle.graph.proofs.EdgeLaws.{far-first}
 use Rattle.graph.specs.Colored.{smallestFreeAt}
 use Rattle.vizing.specs.MisraGries.{lastOf, fanOf, path, exchange, store, find, step}
 use Rattle.vizing.proofs.StepForm.{lastFarEnd, rotatePlaces, StepParts, stepParts, fan-form, last-form, find-form, step-form}
-use Rattle.vizing.proofs.Store.{exchange-none}
+use Rattle.vizing.proofs.StepLaws.{exchange-none, FoundLaws, found-laws, step-keeps}
 use Rattle.vizing.specs.Step.{Invariant}
-use Rattle.vizing.proofs.StepLaws.{FoundLaws, found-laws, step-keeps}
 use Rattle.edge_table.specs.EdgeTable.{state, repainted, isEmpty, smallestEmpty}
 use Rattle.edge_table.specs.TableOf.{TableOf}
 use Rattle.edge_table.proofs.TableOfLaws.{says-smallest, says-free}

@@ -23,8 +23,7 @@ use Rattle.graph.proofs.CheckLaws.{passed-inside}
 use Rattle.graph.specs.Stretch.{stretch, Table}
 use Rattle.vizing.specs.MisraGries.{hasLoop, hasDoubleEdge}
 use Rattle.vizing.specs.Simple.{SameEnds, Incident}
-use Rattle.vizing.proofs.SimpleLaws.{simple-no-double, passed-simple}
-use Rattle.vizing.proofs.SimpleGraph.{simple-graph}
+use Rattle.vizing.proofs.SimpleLaws.{simple-no-double, passed-simple, simple-graph}
 use Rattle.simple_graph.specs.DoubleEdges.{farAt, Twice, Distinct, Tells, Ready, Seen, Before}
 
 -- ---- one node

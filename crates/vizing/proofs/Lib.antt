@@ -1,26 +1,11 @@
 -- Laws of what specs/ defines.
 pub mod DefinitionLaws
 pub mod StepForm
-pub mod Store
-pub mod SimpleGraph
-pub mod SimpleDegree
 pub mod AlternatingPath
-pub mod PathEnd
 pub mod Fan
-pub mod FanGrowth
-pub mod Rotation
-pub mod Palette
-pub mod Run
-pub mod Greatest
 pub mod Tally
-pub mod LaterEdges
 pub mod FirstEdges
-pub mod Checks
 pub mod Theorem
 pub mod ClauseLaws
-pub mod ColoringLaws
-pub mod Demand3Laws
-pub mod Demand3ExamplesLaws
 pub mod SimpleLaws
 pub mod StepLaws
-pub mod WrongCallsLaws

@@ -2,9 +2,8 @@
 use Rattle.two_color.specs.TwoColor.{OneBipartition}
 use Rattle.two_color.proofs.OneBipartition.{one-bipartition}
 use Rattle.vizing.specs.Clause.{ClauseIsClaim}
-use Rattle.vizing.proofs.ClauseLaws.{clause-is-claim}
+use Rattle.vizing.proofs.ClauseLaws.{clause-is-claim, wrong-calls-fall}
 use Rattle.vizing.specs.WrongCalls.{WrongCallsFall}
-use Rattle.vizing.proofs.WrongCallsLaws.{wrong-calls-fall}
 
 pub statements : OneBipartition × ClauseIsClaim × WrongCallsFall
 statements = (one-bipartition, clause-is-claim, wrong-calls-fall)

@@ -1,7 +1,7 @@
 -- `color_admitted` meets its contract: the table is that of the graph.
 use mathlib.Core.Path.{refl, sym}
 use native.Mathlib.Omega.{arith}
-use Rattle.vizing.proofs.Checks.{admitted-passed}
+use Rattle.vizing.proofs.Theorem.{admitted-passed}
 use Rattle.misra_gries.proofs.color_admitted.Statement.{statement}
 use Rattle.misra_gries.proofs.color_admitted.Tie as tie
 
