@@ -1,25 +1,153 @@
--- Laws of what specs/Marks defines.
-use Prim.Native.Nat.{ℕ, _≤_, _<_}
-use mathlib.Core.Path.{_≡_, sym, _∙_}
+-- Laws of the marks: the items around one, what is stored for them, and where a colour stands.
+use Prim.Native.Nat.{ℕ, _+_, _<_, _≤_, zero, suc, _-_}
+use mathlib.Core.Path.{_≡_, refl, sym, _∙_, ap}
+use mathlib.Core.List.{List, [], _∷_, _++_}
+use native.Mathlib.Numerals.{add-one}
+use lib.ListN.{length, getD, take, set, length-set, drop, drop-of-length-le, replicate, length-replicate, getD-replicate}
+use lib.Seq.{take-suc, set-out, take-length, getD-set-same, getD-set-other, drop-cons}
+use borrow.Author.Tests.{eq-eqb, ne-eqb, lt-ltb, le-ltb, ltb-true, eqb-true}
+use Rattle.lists.proofs.MemberLaws.{map-append, dec-mem, mem-getD}
+use Rattle.items.specs.declared.Kind.{Kind}
+use Rattle.items.specs.Items.{firstNode, secondNode, acrossOf}
+use Rattle.color_marks.specs.Around.{acrossAll, along, around}
 use mathlib.Core.Logic.{inl, inr}
-use mathlib.Core.List.{List}
-use mathlib.Core.Bool.{Bool, true, false, _||_, cond}
 use native.Mathlib.Omega.{arith}
-use lib.ListN.{length, getD, set, replicate, length-set, length-replicate, getD-replicate}
-use lib.Seq.{getD-set-same, getD-set-other}
+use Rattle.lists.specs.Member.{Mem, elem}
+use Rattle.color_marks.specs.Stored.{stored}
+use mathlib.Core.Bool.{Bool, true, false, _||_, false≢true, cond}
+use native.Mathlib.Nat.{le-refl}
 use lib.Dec.{eqb, ltb}
-use borrow.Author.Tests.{lt-ltb, le-ltb, eq-eqb, ne-eqb}
-use Rattle.lists.proofs.Tests.{dec-eq, and-false}
+use Rattle.lists.proofs.Tests.{and-true, and-false, or-true, true-or, dec-eq}
+use Rattle.graph.specs.Colored.{colorOf}
+use Rattle.graph.proofs.ColorLaws.{color-read}
+use Rattle.color_marks.specs.Standing.{hasColor, standsAt}
 use Rattle.graph.specs.Stretch.{stretch}
 use Rattle.graph.specs.Color.{noColor}
-use Rattle.items.specs.declared.Kind.{Kind}
-use Rattle.items.specs.Items.{firstNode, secondNode}
-use Rattle.color_marks.specs.Standing.{hasColor, standsAt}
-use Rattle.color_marks.specs.Around.{acrossAll, along, around}
-use Rattle.color_marks.proofs.AroundLaws.{around-one, around-two}
-use Rattle.color_marks.specs.Stored.{stored}
-use Rattle.color_marks.proofs.StoredLaws.{stored-append}
 use Rattle.color_marks.specs.Marks.{stands, markOf, Asked}
+use Rattle.color_marks.specs.Used.{usedMarks}
+
+-- ---- Laws of what specs/Around defines.
+
+pub across-more : (kind : Kind) (ends : List ℕ) (w : ℕ) (ks : List ℕ) (i : ℕ) → i < length ks
+    → acrossAll kind ends w (take (i + 1) ks) ≡ acrossAll kind ends w (take i ks) ++ acrossOf kind ends (getD ks i 0) w ∷ []
+unfolding acrossAll
+across-more kind ends w ks i h = rw (add-one i, take-suc ks i 0 h) (map-append (λ (k : ℕ). acrossOf kind ends k w) (take i ks) (getD ks i 0 ∷ []))
+
+module _ (kind : Kind) (ends starts entries : List ℕ) where
+  pub around-one : (v a b : ℕ) → a ≡ firstNode kind ends v → b ≡ secondNode kind ends v → a ≡ b → around kind ends starts entries v ≡ along kind ends starts entries a
+  unfolding around
+  around-one v a b p q e = rw (← p, ← q, eq-eqb a b e)
+
+  pub around-two : (v a b : ℕ) → a ≡ firstNode kind ends v → b ≡ secondNode kind ends v → (a ≡ b → ⊥) → around kind ends starts entries v ≡ along kind ends starts entries a ++ along kind ends starts entries b
+  unfolding around
+  around-two v a b p q n = rw (← p, ← q, ne-eqb a b n)
+
+-- ---- Laws of what specs/Stored defines.
+
+module _ (f : ℕ → ℕ) where
+  pub stored-append : (us ws marks : List ℕ) → stored f (us ++ ws) marks ≡ stored f ws (stored f us marks)
+  unfolding stored
+  stored-append [] ws marks = refl
+  stored-append (u ∷ us) ws marks = stored-append us ws (set marks u (f u))
+
+  pub stored-last : (us : List ℕ) (u : ℕ) (marks : List ℕ) → stored f (us ++ u ∷ []) marks ≡ set (stored f us marks) u (f u)
+  unfolding stored
+  stored-last us u marks = stored-append us (u ∷ []) marks
+
+  -- ---- what stands there afterwards
+
+  stored-other : (us marks : List ℕ) (u : ℕ) → (Mem u us → ⊥) → getD (stored f us marks) u 0 ≡ getD marks u 0
+  unfolding stored
+  stored-other [] marks u n = refl
+  stored-other (x ∷ us) marks u n = stored-other us (set marks x (f x)) u (λ p. n (inr p)) ∙ getD-set-other marks x u (f x) 0 (λ e. n (inl e))
+
+  pub stored-here : (us marks : List ℕ) (u : ℕ) → Mem u us → u < length marks → getD (stored f us marks) u 0 ≡ f u
+  unfolding stored
+  stored-here (x ∷ us) marks u p h = elim (dec-mem u us) [
+    | inl q ↦ stored-here us (set marks x (f x)) u q (omega (arith, length-set marks x (f x)))
+    | inr n ↦ elim p [
+      | inl e ↦ stored-other us (set marks x (f x)) u n ∙ rw e (getD-set-same marks x (f x) 0 (omega arith))
+      | inr q ↦ absurd (n q)
+    ]
+  ]
+
+  -- ---- the items along these edges of node w, one edge after the other
+
+  module _ (kind : Kind) (ends : List ℕ) (w : ℕ) (ks marks₀ : List ℕ) where
+    pub along-none : marks₀ ≡ stored f (acrossAll kind ends w (take 0 ks)) marks₀
+    unfolding stored acrossAll
+    along-none = refl
+
+    module _ (marks : List ℕ) (i : ℕ) (p : marks ≡ stored f (acrossAll kind ends w (take i ks)) marks₀) where
+      pub along-more : i < length ks → (u x : ℕ) → u ≡ acrossOf kind ends (getD ks i 0) w → x ≡ f u → set marks u x ≡ stored f (acrossAll kind ends w (take (i + 1) ks)) marks₀
+      along-more h u x e q = rw (across-more kind ends w ks i h, stored-last (acrossAll kind ends w (take i ks)) (acrossOf kind ends (getD ks i 0) w) marks₀, p, q, e)
+
+      -- An item that has no place changes nothing.
+      pub along-outside : i < length ks → (u : ℕ) → u ≡ acrossOf kind ends (getD ks i 0) w → length marks ≤ u → marks ≡ stored f (acrossAll kind ends w (take (i + 1) ks)) marks₀
+      along-outside h u e o = sym (set-out marks u (f u) o) ∙ along-more h u (f u) e refl
+
+      pub along-all : i ≤ length ks → length ks ≤ i → marks ≡ stored f (acrossAll kind ends w ks) marks₀
+      along-all h k = let e : i ≡ length ks = omega arith in p ∙ rw (e, take-length ks)
+
+-- ---- Laws of what specs/Standing defines.
+
+module _ (kind : Kind) (ends colors : List ℕ) (c w : ℕ) where
+  -- ---- which item it is
+
+  pub stands-item : (ks : List ℕ) → standsAt kind ends colors c w ks ≡ true → (k : ℕ) × Mem k ks × (acrossOf kind ends k w < length colors) × (colorOf colors (acrossOf kind ends k w) ≡ c)
+  unfolding standsAt hasColor
+  stands-item [] e = absurd (false≢true e)
+  stands-item (k ∷ ks) e =
+      let v = acrossOf kind ends k w in
+      elim (or-true (hasColor colors c v) (standsAt kind ends colors c w ks) e) [
+        | inl t ↦
+            let r = and-true (ltb v (length colors)) (eqb (getD colors v 0) c) t in
+            let h = ltb-true v (length colors) (r .0) in
+            (k, inl refl, h, sym (color-read colors v 0 h) ∙ eqb-true (getD colors v 0) c (r .1))
+        | inr t ↦ let r = stands-item ks t in (r .0, inr (r .1), r .2, r .3)
+      ]
+
+  pub item-stands : (ks : List ℕ) (k : ℕ) → Mem k ks → acrossOf kind ends k w < length colors → colorOf colors (acrossOf kind ends k w) ≡ c → standsAt kind ends colors c w ks ≡ true
+  unfolding standsAt hasColor
+  item-stands (j ∷ ks) k (inl p) h e =
+      let v = acrossOf kind ends k w in
+      rw (← p, lt-ltb v (length colors) h, eq-eqb (getD colors v 0) c (color-read colors v 0 h ∙ e))
+  item-stands (j ∷ ks) k (inr p) h e = true-or (hasColor colors c (acrossOf kind ends j w)) (standsAt kind ends colors c w ks) (item-stands ks k p h e)
+
+  -- ---- one edge after the other, from the last to the first
+
+  module _ (ks : List ℕ) where
+    pub stands-none : standsAt kind ends colors c w (drop (length ks) ks) ≡ false
+    unfolding standsAt
+    stands-none = ap (standsAt kind ends colors c w) (drop-of-length-le ks (le-refl (length ks)))
+
+    pub stands-nowhere : (i : ℕ) → standsAt kind ends colors c w (drop i ks) ≡ false → i ≤ 0 → (edges : List ℕ) → ks ≡ edges → false ≡ standsAt kind ends colors c w edges
+    stands-nowhere zero p h edges x = sym (ap (standsAt kind ends colors c w) (sym x) ∙ p)
+    stands-nowhere (suc i) p h edges x = let z : ⊥ = omega arith in absurd z
+
+    module _ (i : ℕ) (z : 0 < i) (h : i ≤ length ks) (v : ℕ) (e : v ≡ acrossOf kind ends (getD ks (i - 1) 0) w) where
+      pub stands-here : v < length colors → getD colors v 0 ≡ c → (edges : List ℕ) → ks ≡ edges → true ≡ standsAt kind ends colors c w edges
+      stands-here b q edges x =
+          let here : v < length colors → colorOf colors v ≡ c → standsAt kind ends colors c w ks ≡ true = rw e (item-stands ks (getD ks (i - 1) 0) (mem-getD ks (i - 1) 0 (omega arith))) in
+          sym (ap (standsAt kind ends colors c w) (sym x) ∙ here b (sym (color-read colors v 0 b) ∙ q))
+
+      -- One edge more is passed.
+      past : standsAt kind ends colors c w (drop i ks) ≡ false → hasColor colors c v ≡ false → standsAt kind ends colors c w (drop (i - 1) ks) ≡ false
+      unfolding standsAt
+      past p f =
+          let next : suc (i - 1) ≡ i = omega arith in
+          let passed : drop (i - 1) ks ≡ getD ks (i - 1) 0 ∷ drop i ks = drop-cons ks (i - 1) 0 (omega arith) ∙ ap (λ (j : ℕ). getD ks (i - 1) 0 ∷ drop j ks) next in
+          ap (standsAt kind ends colors c w) passed ∙ (ap (λ (b : Bool). b || standsAt kind ends colors c w (drop i ks)) (ap (hasColor colors c) (sym e) ∙ f) ∙ p)
+
+      pub stands-outside : standsAt kind ends colors c w (drop i ks) ≡ false → length colors ≤ v → standsAt kind ends colors c w (drop (i - 1) ks) ≡ false
+      unfolding hasColor
+      stands-outside p o = past p (rw (le-ltb v (length colors) o))
+
+      pub stands-other : standsAt kind ends colors c w (drop i ks) ≡ false → (getD colors v 0 ≡ c → ⊥) → standsAt kind ends colors c w (drop (i - 1) ks) ≡ false
+      unfolding hasColor
+      stands-other p n = past p (rw (ne-eqb (getD colors v 0) c n) (and-false (ltb v (length colors)) false refl))
+
+-- ---- Laws of what specs/Marks defines.
 
 module _ (kind : Kind) (ends starts entries colors : List ℕ) (c : ℕ) where
   -- ---- as the code asks
@@ -87,3 +215,34 @@ module _ (kind : Kind) (ends starts entries : List ℕ) (v a b : ℕ) (p : a ≡
     pub both-stored : (a ≡ b → ⊥) → (others : List ℕ) → others ≡ stretch starts entries b → (marks′ : List ℕ) → marks′ ≡ stored f (acrossAll kind ends b others) marks → marks′ ≡ stored f (around kind ends starts entries v) marks₀
     unfolding along
     both-stored n others y marks′ m′ = rw (around-two kind ends starts entries v a b p q n, ← x, ← y, stored-append f (acrossAll kind ends a edges) (acrossAll kind ends b others) marks₀, ← m) m′
+
+-- ---- Laws of what specs/Used defines.
+
+module _ (kind : Kind) (ends starts entries colors : List ℕ) (c v : ℕ) (marks : List ℕ) where
+  pub used-yes : elem c colors ≡ true → (usedMarks kind ends starts entries colors c v marks) ≡ stored (markOf kind ends starts entries colors c) (around kind ends starts entries v) marks
+  unfolding usedMarks
+  used-yes t = rw t
+
+  pub used-no : elem c colors ≡ false → (usedMarks kind ends starts entries colors c v marks) ≡ marks
+  unfolding usedMarks
+  used-no f = rw f
+
+  -- As the code asks.
+  pub used-marked : (after : List ℕ) → after ≡ stored (markOf kind ends starts entries colors c) (around kind ends starts entries v) marks → (r : Bool) → r ≡ elem c colors → r ≡ true → after ≡ usedMarks kind ends starts entries colors c v marks
+  used-marked after e r p t = e ∙ sym (used-yes (sym p ∙ t))
+
+  pub unused-kept : (r : Bool) → r ≡ elem c colors → r ≡ false → marks ≡ usedMarks kind ends starts entries colors c v marks
+  unused-kept r p f = sym (used-no (sym p ∙ f))
+
+module _ (c : ℕ) (colors : List ℕ) (v : ℕ) (left : elem c (drop v colors) ≡ elem c colors) where
+  pub used-here : v < length colors → getD colors v 0 ≡ c → true ≡ elem c colors
+  unfolding elem
+  used-here h e = rw (drop-cons colors v 0 h, eq-eqb c (getD colors v 0) (sym e)) at left
+
+  pub used-next : v < length colors → (getD colors v 0 ≡ c → ⊥) → elem c (drop (v + 1) colors) ≡ elem c colors
+  unfolding elem
+  used-next h n = rw (add-one v) (rw (drop-cons colors v 0 h, ne-eqb c (getD colors v 0) (λ e. n (sym e))) at left)
+
+  pub used-none : length colors ≤ v → false ≡ elem c colors
+  unfolding elem
+  used-none h = rw (drop-of-length-le colors {i = v} h) at left

@@ -14,23 +14,21 @@ use Rattle.lists.proofs.PartsLaws.{copied-same}
 use Rattle.graph.specs.Edges.{edgeCount, firstEnd, secondEnd}
 use Rattle.graph.specs.Color.{noColor}
 use Rattle.graph.specs.Colored.{colorOf, smallestFreeAt}
-use Rattle.graph.proofs.ColoredLaws.{color-set-other}
+use Rattle.graph.proofs.ColorLaws.{color-set-other}
 use Rattle.graph.specs.Check.{Passed}
 use Rattle.graph.proofs.NeighborLaws.{passed-degree, degree-bound}
 use Rattle.line_list.proofs.LineNeighborLaws.{line-neighbor-count, line-neighbor-count-loop}
 use Rattle.greedy.specs.Turn.{uncolored, colorItem}
-use Rattle.greedy.proofs.UncoloredLaws.{uncolored-member}
+use Rattle.greedy.proofs.TurnLaws.{uncolored-member, edge-neighbors}
 use Rattle.greedy.specs.Degree.{colorInOrder, degreeOrder, degreeColors}
-use Rattle.greedy.proofs.GreedyLaws.{edge-neighbors}
 use Rattle.items.specs.declared.Kind.{Kind}
 use Rattle.items.specs.declared.Kind.the-variants.{Nodes, Edges}
 use Rattle.items.specs.Items.{itemsOf, neighborsOf, freeColor, Tabled}
 use Rattle.items.proofs.ItemsLaws.{items-few, free-smallest}
 use Rattle.degree.specs.Buckets.{fallingBuckets}
-use Rattle.degree.proofs.BucketsLaws.{falling-same}
-use Rattle.degree.proofs.OrderLaws.{degreeAmong, degree-among, order-buckets, order-member, order-nodup}
+use Rattle.degree.proofs.OrderLaws.{falling-same, degreeAmong, degree-among, order-buckets, order-member, order-nodup}
 use Rattle.degree.specs.Count.{degreeIn, Countable}
-use Rattle.degree.proofs.CountLaws.{zeros-at}
+use Rattle.degree.proofs.PlaceLaws.{zeros-at}
 use Rattle.degree.specs.Color.{Room, Waiting}
 
 -- ---- degrees

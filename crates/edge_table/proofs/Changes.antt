@@ -15,7 +15,7 @@ use Rattle.graph.proofs.EdgeLaws.{edge-at, at-edge}
 use Rattle.graph.specs.Color.{noColor}
 use Rattle.graph.specs.Colored.{colorOf}
 use Rattle.vizing.specs.MisraGries.{edgeOfColor}
-use Rattle.graph.proofs.ColoredLaws.{color-set-same, color-set-other}
+use Rattle.graph.proofs.ColorLaws.{color-set-same, color-set-other}
 use Rattle.vizing.proofs.DefinitionLaws.{some-or-none, edge-of-color-some, edge-of-color-none, none-has-none}
 use Rattle.vizing.specs.Coloring.{Free}
 use Rattle.vizing.proofs.AlternatingPath.{color-edge, uncolor-edge}

@@ -11,7 +11,7 @@ use Rattle.lists.proofs.MemberLaws.{dec-mem}
 use Rattle.graph.specs.Color.{noColor}
 use Rattle.graph.specs.Colored.{colorOf}
 use Rattle.vizing.specs.MisraGries.{store}
-use Rattle.graph.proofs.ColoredLaws.{color-set-same, color-set-other}
+use Rattle.graph.proofs.ColorLaws.{color-set-same, color-set-other}
 use Rattle.vizing.proofs.DefinitionLaws.{color-store-other}
 use Rattle.vizing.specs.Coloring.{Free}
 use Rattle.vizing.specs.Simple.{Incident}

@@ -12,7 +12,7 @@ use Rattle.graph.proofs.EdgeLaws.{edge-at}
 use Rattle.graph.specs.Color.{noColor}
 use Rattle.graph.specs.Colored.{colorOf, smallestFreeAt}
 use Rattle.vizing.specs.MisraGries.{isNone, isFree}
-use Rattle.graph.proofs.ColoredLaws.{NoneHas, color-replicate, smallest-free-found}
+use Rattle.graph.proofs.ColorLaws.{NoneHas, color-replicate, smallest-free-found}
 use Rattle.vizing.proofs.DefinitionLaws.{none-has-none, is-free-true, is-free-false}
 use Rattle.edge_table.specs.EdgeTable.{noEdge, entryAt, isEmpty, smallestEmpty, State, state}
 use Rattle.edge_table.proofs.EdgeTableLaws.{getD-same, entry-place, no-place, reads-none, FirstEmpty, first-empty}

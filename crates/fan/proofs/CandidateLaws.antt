@@ -17,7 +17,7 @@ use Rattle.lists.proofs.MemberLaws.{mem-append}
 use Rattle.lists.specs.Search.{firstPlace}
 use Rattle.graph.specs.Color.{noColor}
 use Rattle.graph.specs.Colored.{colorOf}
-use Rattle.graph.proofs.ColoredLaws.{colored-true, uncolored-false}
+use Rattle.graph.proofs.ColorLaws.{colored-true, uncolored-false}
 use Rattle.edge_table.specs.EdgeTable.{isEmpty}
 use Rattle.fan.specs.Candidates.{firstThat, mayJoin, joinsMarked}
 

@@ -7,9 +7,8 @@ use native.Mathlib.Omega.{arith}
 use lib.ListN.{length, length-map}
 use Rattle.lists.proofs.Tests.{dec-eq}
 use Rattle.lists.specs.Member.{Mem}
-use Rattle.lists.proofs.MemberLaws.{mem-map, map-mem, nodup-bound, map-append}
+use Rattle.lists.proofs.MemberLaws.{mem-map, map-mem, nodup-bound, map-append, count-append, count-here, count-there, count-none}
 use Rattle.lists.specs.Different.{count}
-use Rattle.lists.proofs.DifferentLaws.{count-append, count-here, count-there, count-none}
 use Rattle.graph.specs.Edges.{edgeCount, firstEnd, secondEnd, farEnd, firstEdges, secondEdges, edgesAt, degree, neighbors, At}
 use Rattle.graph.proofs.EdgeLaws.{far-first, far-second, far-at, far-far, first-more, first-same, first-none, second-more, second-same, second-none, second-at-other, loop-not-second, edges-at-groups, edge-at, at-edge, edges-at-nodup}
 use Rattle.graph.specs.Check.{Passed}

@@ -1,22 +1,207 @@
--- Laws of laid out files: what is read is laid out, and what is laid out is read back.
-use Prim.Native.Nat.{ℕ, _+_, _*_, _≤_, _<_, _%_, _/_}
+-- Laws of the layout: numbers, fields, and what a file is.
+use Prim.Native.Nat.{ℕ, zero, suc, _+_, _*_, _≤_, _<_, _%_, _/_}
 use mathlib.Core.Path.{_≡_, refl, sym, ap, ap₂, _∙_}
 use mathlib.Core.Bool.{true}
 use mathlib.Core.List.{List, [], _∷_, _++_, append-nil}
-use mathlib.Core.Option.{Option, none, some, bind, Option·none-ne-some}
 use native.Mathlib.Omega.{arith}
-use lib.ListN.{length, length-append}
-use lib.Seq.{take-append-seam, drop-append-seam}
-use lib.Dec.{ltb, eqb}
-use borrow.Author.Tests.{le-ltb, eq-eqb, ltb-false, eqb-true}
-use Rattle.lists.proofs.Tests.{by-test, and-true}
+use lib.ListN.{length, getD, take, drop, set, length-append, take-append-drop}
+use lib.Seq.{take-length, length-take-le, take-append-seam, drop-append-seam}
+use borrow.Author.Tests.{lt-ltb, le-ltb, ltb-false, eq-eqb, eqb-true}
+use Rattle.lists.proofs.Tests.{true-and, by-test, and-true}
 use Rattle.lists.specs.Search.{allBelow}
 use Rattle.lists.proofs.SearchLaws.{all-below-cons, all-below-append}
-use Rattle.graph.specs.Edges.{edgeCount}
+use Rattle.lists.proofs.PartsLaws.{copied-next}
+use Rattle.graph.specs.Table.{over}
 use Rattle.graph_file.specs.File.{number16, numbers, Field, firstField, fieldsUpTo, fields, File, isEnds, afterNodes, isNodes, numberOf, graphOf, mostBytes, fileOf, tagBit}
 use Rattle.graph_file.specs.Layout.{bytes16, bytesOf, fieldBytes, graphBytes, LaidOut}
-use Rattle.graph_file.proofs.NumberLaws.{length-numbers, length-bytes, number-of-bytes, numbers-of-bytes, bytes-of-number, number-below, bytes-of-numbers}
-use Rattle.graph_file.proofs.FieldLaws.{first-whole, field-shape, fields-then, fields-truncated, none-then, fields-end, fields-more}
+use mathlib.Core.Option.{Option, none, some, bind, Option·none-ne-some}
+use lib.Dec.{ltb, eqb}
+use Rattle.graph.specs.Edges.{edgeCount}
+
+-- ---- Laws of numbers of two bytes: each is read back from its bytes, and bytes from their numbers.
+
+pub length-numbers : (bytes : List ℕ) → length (numbers bytes) ≡ length bytes / 2
+unfolding numbers
+length-numbers [] = refl
+length-numbers (byte ∷ []) = refl
+length-numbers (low ∷ high ∷ rest) = omega (arith, length-numbers rest)
+
+pub numbers-at : (bytes : List ℕ) (i : ℕ) → 2 * i + 1 < length bytes → getD (numbers bytes) i 0 ≡ number16 (getD bytes (2 * i) 0) (getD bytes (2 * i + 1) 0)
+unfolding numbers
+numbers-at [] i h = let z : ⊥ = omega arith in absurd z
+numbers-at (byte ∷ []) i h = let z : ⊥ = omega arith in absurd z
+numbers-at (low ∷ high ∷ rest) zero h = refl
+numbers-at (low ∷ high ∷ rest) (suc i) h =
+    let p : 2 * suc i ≡ suc (suc (2 * i)) = omega arith in
+    let q : 2 * suc i + 1 ≡ suc (suc (2 * i + 1)) = omega arith in
+    rw (q, p) (numbers-at rest i (omega arith))
+
+pub length-bytes : (xs : List ℕ) → length (bytesOf xs) ≡ 2 * length xs
+unfolding bytesOf bytes16
+length-bytes [] = refl
+length-bytes (x ∷ xs) = omega (arith, length-bytes xs)
+
+pub number-of-bytes : (x : ℕ) → number16 (x % 256) (x / 256) ≡ x
+unfolding number16
+number-of-bytes x = omega arith
+
+pub numbers-of-bytes : (xs : List ℕ) → numbers (bytesOf xs) ≡ xs
+unfolding bytesOf bytes16 numbers
+numbers-of-bytes [] = refl
+numbers-of-bytes (x ∷ xs) = ap₂ (λ (a : ℕ) (l : List ℕ). a ∷ l) (number-of-bytes x) (numbers-of-bytes xs)
+
+pub bytes-of-number : (low high : ℕ) → low < 256 → bytes16 (number16 low high) ≡ low ∷ high ∷ []
+unfolding bytes16 number16
+bytes-of-number low high h =
+    let p : (low + 256 * high) % 256 ≡ low = omega arith in
+    let q : (low + 256 * high) / 256 ≡ high = omega arith in
+    rw (p, q)
+
+pub number-below : (low high : ℕ) → low < 256 → high < 256 → number16 low high < 65536
+unfolding number16
+number-below low high p q = omega arith
+
+-- Bytes in pairs are those of their numbers, which two bytes can hold.
+pub bytes-of-numbers : (bytes : List ℕ) → length bytes % 2 ≡ 0 → allBelow 256 bytes ≡ true → (bytesOf (numbers bytes) ≡ bytes) × (allBelow 65536 (numbers bytes) ≡ true)
+unfolding bytesOf numbers allBelow
+bytes-of-numbers [] h e = (refl, refl)
+bytes-of-numbers (byte ∷ []) h e = let z : ⊥ = omega arith in absurd z
+bytes-of-numbers (low ∷ high ∷ rest) h e =
+    let r = all-below-cons 256 low (high ∷ rest) e in
+    let s = all-below-cons 256 high rest (r .1) in
+    let t = bytes-of-numbers rest (omega arith) (s .1) in
+    (ap₂ _++_ (bytes-of-number low high (r .0)) (t .0), true-and _ _ (lt-ltb (number16 low high) 65536 (number-below low high (r .0) (s .0))) (t .1))
+
+-- ---- a copy number by number
+
+pub number-copied : (bytes lent list : List ℕ) (i x : ℕ) → list ≡ take i (numbers bytes) ++ drop i lent → i < length bytes / 2 → length (numbers bytes) ≤ length lent
+    → x ≡ number16 (getD bytes (2 * i) 0) (getD bytes (2 * i + 1) 0) → set list i x ≡ take (i + 1) (numbers bytes) ++ drop (i + 1) lent
+number-copied bytes lent list i x e h k v =
+    let n = length-numbers bytes in
+    ap (set list i) (v ∙ sym (numbers-at bytes i (omega arith))) ∙ copied-next (numbers bytes) lent list i e (omega arith) (omega arith)
+
+pub all-copied : (bytes lent list : List ℕ) (i : ℕ) → list ≡ take i (numbers bytes) ++ drop i lent → i ≤ length bytes / 2 → length bytes / 2 ≤ i → list ≡ over (numbers bytes) lent
+all-copied bytes lent list i e h k =
+    let p : i ≡ length (numbers bytes) = omega (arith, length-numbers bytes) in
+    rw (e, p, take-length (numbers bytes))
+
+-- ---- Laws of fields: where one stands in the bytes, and what follows from the first one.
+
+pub first-truncated : (tag low high : ℕ) (rest : List ℕ) → length rest < number16 low high → firstField (tag ∷ low ∷ high ∷ rest) ≡ none
+unfolding firstField
+first-truncated tag low high rest h = simp (lt-ltb _ _ h)
+
+pub first-whole : (tag low high : ℕ) (rest : List ℕ) → number16 low high ≤ length rest
+    → firstField (tag ∷ low ∷ high ∷ rest) ≡ some (record { tag = tag; bytes = take (number16 low high) rest }, drop (number16 low high) rest)
+unfolding firstField
+first-whole tag low high rest h = simp (le-ltb _ _ h)
+
+pub header-short : (bytes : List ℕ) → length bytes < 3 → firstField bytes ≡ none
+unfolding firstField
+header-short [] h = refl
+header-short (a ∷ []) h = refl
+header-short (a ∷ b ∷ []) h = refl
+header-short (a ∷ b ∷ d ∷ rest) h = let z : ⊥ = omega arith in absurd z
+
+-- The first field with its header, as the bytes have them.
+pub record Shape (bytes : List ℕ) (field : Field) (rest : List ℕ) : Type 0 where
+  pub low : ℕ
+  pub high : ℕ
+  pub size : number16 low high ≡ length (field .bytes)
+  pub same : bytes ≡ field .tag ∷ low ∷ high ∷ (field .bytes ++ rest)
+
+abbrev Found : Type 0
+Found = Field × List ℕ
+
+pub field-shape : (bytes : List ℕ) (field : Field) (rest : List ℕ) → firstField bytes ≡ some (field, rest) → Shape bytes field rest
+unfolding firstField
+field-shape [] field rest e = absurd (Option·none-ne-some _ e)
+field-shape (a ∷ []) field rest e = absurd (Option·none-ne-some _ e)
+field-shape (a ∷ b ∷ []) field rest e = absurd (Option·none-ne-some _ e)
+field-shape (tag ∷ low ∷ high ∷ others) field rest e =
+    by-test (ltb (length others) (number16 low high))
+    (λ t. absurd (Option·none-ne-some {A = Found} (field, rest) (simp t at e)))
+    (λ t.
+    let h = ltb-false _ _ t in
+    let n = number16 low high in
+    let found : Found = (record { tag = tag; bytes = take n others }, drop n others) in
+    let there : Found = (field, rest) in
+    let p : found ≡ there = cc (simp t at e) in
+    let f = ap (λ (x : Found). x .0) p in
+    let r = ap (λ (x : Found). x .1) p in
+    record {
+      low = low;
+      high = high;
+      size = sym (length-take-le n others h) ∙ ap (λ (x : Field). length (x .bytes)) f;
+      same = ap (λ (l : List ℕ). tag ∷ low ∷ high ∷ l) (sym (take-append-drop n others)) ∙ ap₂ (λ (x : Field) (l : List ℕ). x .tag ∷ low ∷ high ∷ (x .bytes ++ l)) f r;
+    })
+
+pub rest-shorter : (bytes : List ℕ) (field : Field) (rest : List ℕ) → firstField bytes ≡ some (field, rest) → length rest < length bytes
+rest-shorter bytes field rest e = let s = field-shape bytes field rest e in omega (arith, ap length (s .same), length-append (field .bytes) rest)
+
+-- As many fields as bytes are enough.
+same-fields : (k j : ℕ) (bytes : List ℕ) → length bytes ≤ k → length bytes ≤ j → fieldsUpTo k bytes ≡ fieldsUpTo j bytes
+unfolding fieldsUpTo bind
+same-fields zero zero bytes h i = refl
+same-fields zero (suc j) [] h i = refl
+same-fields zero (suc j) (b ∷ bytes) h i = let z : ⊥ = omega arith in absurd z
+same-fields (suc k) zero [] h i = refl
+same-fields (suc k) zero (b ∷ bytes) h i = let z : ⊥ = omega arith in absurd z
+same-fields (suc k) (suc j) [] h i = refl
+same-fields (suc k) (suc j) (b ∷ bytes) h i = go (same-fields k j) (firstField (b ∷ bytes)) refl
+  where
+    go : ((l : List ℕ) → length l ≤ k → length l ≤ j → fieldsUpTo k l ≡ fieldsUpTo j l) → (o : Option Found) → firstField (b ∷ bytes) ≡ o
+        → bind o (λ (found : Found). bind (fieldsUpTo k (found .1)) (λ (fs : List Field). some (found .0 ∷ fs))) ≡ bind o (λ (found : Found). bind (fieldsUpTo j (found .1)) (λ (fs : List Field). some (found .0 ∷ fs)))
+    go ih none e = refl
+    go ih (some (field, rest)) e = let s = rest-shorter (b ∷ bytes) field rest e in rw (ih rest (omega arith) (omega arith))
+
+pub fields-next : (bytes : List ℕ) (field : Field) (rest : List ℕ) → firstField bytes ≡ some (field, rest) → fields bytes ≡ bind (fields rest) (λ (fs : List Field). some (field ∷ fs))
+unfolding fields fieldsUpTo firstField bind
+fields-next [] field rest e = absurd (Option·none-ne-some _ e)
+fields-next (b ∷ bytes) field rest e =
+    let s = rest-shorter (b ∷ bytes) field rest e in
+    rw (e, same-fields (length bytes) (length rest) rest (omega arith) (omega arith))
+
+-- What is made of the fields, through the first one.
+pub fields-then : (bytes : List ℕ) (field : Field) (rest : List ℕ) (made : List Field → Option File) → firstField bytes ≡ some (field, rest)
+    → bind (fields bytes) made ≡ bind (fields rest) (λ (fs : List Field). made (field ∷ fs))
+unfolding bind
+fields-then bytes field rest made e = ap (λ (o : Option (List Field)). bind o made) (fields-next bytes field rest e) ∙ again (fields rest)
+  where
+    again : (o : Option (List Field)) → bind (bind o (λ (fs : List Field). some (field ∷ fs))) made ≡ bind o (λ (fs : List Field). made (field ∷ fs))
+    again none = refl
+    again (some fs) = refl
+
+pub fields-truncated : (bytes : List ℕ) (made : List Field → Option File) → firstField bytes ≡ none → made [] ≡ none → bind (fields bytes) made ≡ none
+unfolding fields fieldsUpTo bind
+fields-truncated [] made e h = h
+fields-truncated (b ∷ bytes) made e h = rw e
+
+pub none-then : (o : Option (List Field)) (made : List Field → Option File) → ((fs : List Field) → made fs ≡ none) → bind o made ≡ none
+unfolding bind
+none-then none made h = refl
+none-then (some fs) made h = h fs
+
+-- No bytes have no fields; other bytes have a first one, or none are found.
+pub fields-end : (bytes : List ℕ) (made : List Field → Option File) → length bytes ≡ 0 → bind (fields bytes) made ≡ made []
+unfolding fields fieldsUpTo bind
+fields-end [] made h = refl
+fields-end (b ∷ bytes) made h = let z : ⊥ = omega arith in absurd z
+
+pub fields-more : (bytes : List ℕ) (made : List Field → Option File) → 0 < length bytes → ((field : Field) (fs : List Field) → made (field ∷ fs) ≡ none) → bind (fields bytes) made ≡ none
+unfolding fields fieldsUpTo bind
+fields-more [] made h k = let z : ⊥ = omega arith in absurd z
+fields-more (b ∷ bytes) made h k = go (firstField (b ∷ bytes))
+  where
+    go : (o : Option Found) → bind (bind o (λ (found : Found). bind (fieldsUpTo (length bytes) (found .1)) (λ (fs : List Field). some (found .0 ∷ fs)))) made ≡ none
+    go none = refl
+    go (some (field, rest)) = last (fieldsUpTo (length bytes) rest)
+      where
+        last : (o : Option (List Field)) → bind (bind o (λ (fs : List Field). some (field ∷ fs))) made ≡ none
+        last none = refl
+        last (some fs) = k field fs
+
+-- ---- Laws of laid out files: what is read is laid out, and what is laid out is read back.
 
 -- ---- what is laid out is read back
 
@@ -60,9 +245,6 @@ pub read-laid : (bytes : List ℕ) (n : ℕ) (ends : List ℕ) → LaidOut bytes
 read-laid bytes n ends l = ap fileOf (l .same) ∙ read-bytes n ends (l .even) (l .edges)
 
 -- ---- what is read is laid out
-
-abbrev Found : Type 0
-Found = Field × List ℕ
 
 -- The first field's bytes stand in front.
 pub field-bytes : (bytes : List ℕ) (field : Field) (rest : List ℕ) → firstField bytes ≡ some (field, rest) → allBelow 256 bytes ≡ true

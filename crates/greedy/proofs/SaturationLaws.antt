@@ -12,13 +12,12 @@ use Rattle.lists.proofs.Tests.{by-test, and-true, true-and, or-true, true-or}
 use Rattle.lists.specs.Member.{Mem}
 use Rattle.lists.proofs.MemberLaws.{mem-elem}
 use Rattle.lists.specs.Equal.{equal}
-use Rattle.lists.proofs.EqualLaws.{equal-self}
+use Rattle.lists.proofs.SearchLaws.{equal-self}
 use Rattle.graph.specs.Color.{noColor}
 use Rattle.graph.specs.Colored.{colorOf, smallestFreeAt}
 use Rattle.greedy.specs.Turn.{uncolored, colorItem}
-use Rattle.greedy.proofs.UncoloredLaws.{uncolored-member, member-uncolored, uncolored-few, uncolored-less}
+use Rattle.greedy.proofs.TurnLaws.{uncolored-member, member-uncolored, uncolored-few, uncolored-less, Partial, partial-presets, partial-turn, partial-greedy, turn-color, turn-here, turn-other, turn-size}
 use Rattle.greedy.specs.Greedy.{Neighborhood, Greedy}
-use Rattle.greedy.proofs.TurnLaws.{Partial, partial-presets, partial-turn, partial-greedy, turn-color, turn-here, turn-other, turn-size}
 use Rattle.greedy.specs.Saturation.{saturation, uncoloredNeighbors, greater, greatest, saturationFrom, orderFrom, saturationColors, noneGreater, legalTurn, legalRun}
 -- No name of it is used: the rows are to be checked before the laws, so that a wrong definition is refused for what it gives.
 use Rattle.greedy.specs.Examples

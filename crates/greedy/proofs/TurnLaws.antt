@@ -1,21 +1,89 @@
--- Laws of colouring turn by turn: what holds of the colours so far.
-use Prim.Native.Nat.{ℕ, _≤_, _<_}
+-- Laws of a turn: the items without a colour, what one turn keeps, and so what a greedy colouring is.
+use Prim.Native.Nat.{ℕ, zero, suc, _≤_, _<_}
 use mathlib.Core.Bool.{not}
-use mathlib.Core.List.{List, [], _∷_}
-use lib.Dec.{eqb}
-use lib.ListN.{length, length-set}
-use Rattle.graph.specs.Edges.{keep}
-use Rattle.graph.specs.Colored.{smallestFreeAt, colorOf}
-use mathlib.Core.Logic.{_⊎_, inl, inr, _≢_}
-use mathlib.Core.Path.{_≡_, refl, sym, ap, subst, _∙_}
+use mathlib.Core.List.{List, [], _∷_, _++_, map}
+use mathlib.Core.Logic.{inl, inr, _≢_, _⊎_}
+use mathlib.Core.Path.{_≡_, sym, ap, _∙_, refl, subst}
+use native.Mathlib.Nat.{not-suc-le-zero}
 use native.Mathlib.Omega.{arith}
-use Rattle.lists.proofs.Tests.{dec-eq}
+use lib.ListN.{length, set, length-set, length-map}
+use Rattle.lists.proofs.Tests.{by-test, dec-eq}
 use Rattle.lists.specs.Member.{Mem, Nodup}
+use Rattle.lists.proofs.MemberLaws.{mem-append, mem-append-left, mem-append-right, nodup-append, nodup-bound, pigeonhole, mem-map, cover-bound, member-distinct}
+use Rattle.graph.specs.Edges.{keep, edgeCount, neighbors, At}
 use Rattle.graph.specs.Color.{noColor}
-use Rattle.graph.proofs.ColoredLaws.{color-set-same, color-set-other, smallest-free-bound, smallest-free-color, smallest-none-has, smaller-stands}
-use Rattle.greedy.specs.Turn.{colorItem}
+use Rattle.graph.specs.Colored.{colorOf, isColored, smallestFreeAt}
+use Rattle.graph.proofs.ColorLaws.{is-colored-false, uncolored-false, color-set-same, color-set-other, smallest-free-bound, smallest-free-color, smallest-none-has, smaller-stands}
+use Rattle.greedy.specs.Turn.{uncolored, colorItem}
+use lib.Dec.{eqb}
 use Rattle.greedy.specs.Greedy.{Neighborhood, Greedy}
 use Rattle.greedy.specs.Degree.{colorInOrder}
+use borrow.Author.Tests.{ne-eqb}
+use Rattle.lists.specs.Different.{distinct, different}
+use Rattle.graph.specs.Check.{Passed}
+use Rattle.graph.proofs.CheckLaws.{passed-inside}
+use Rattle.line_list.specs.LineList.{linePairs}
+use Rattle.line_list.specs.LineNeighbors.{lineNeighbors}
+use Rattle.line_list.proofs.LineNeighborLaws.{line-neighbors, pair-ends-inside, member-line-neighbor, line-neighbor-bound}
+use Rattle.graph.proofs.NeighborLaws.{neighbor-inside, neighbor-symmetric, neighbor-times, passed-neighbor, passed-degree}
+use Rattle.greedy.specs.Call.{edgeNeighbors}
+
+-- ---- Laws of the items without a colour.
+
+-- One item more, with or without a colour.
+pub last-uncolored : (colors : List ℕ) (n : ℕ) → colorOf colors n ≡ noColor → uncolored colors (suc n) ≡ uncolored colors n ++ n ∷ []
+unfolding uncolored
+last-uncolored colors n e = rw (uncolored-false colors n e)
+
+pub last-colored : (colors : List ℕ) (n : ℕ) → colorOf colors n ≢ noColor → uncolored colors (suc n) ≡ uncolored colors n ++ []
+unfolding uncolored
+last-colored colors n d = by-test (isColored colors n) (λ t. rw t) (λ t. absurd (d (is-colored-false colors n t)))
+
+-- They are the items below n that have none,
+pub uncolored-member : (colors : List ℕ) (n v : ℕ) → Mem v (uncolored colors n) → (v < n) × (colorOf colors v ≡ noColor)
+unfolding uncolored
+uncolored-member colors (suc n) v p = elim (mem-append v (uncolored colors n) (keep (not (isColored colors n)) n []) p) [
+  | inl q ↦ let r = uncolored-member colors n v q in (omega (arith, r .0), r .1)
+  | inr q ↦ by-test (isColored colors n)
+      (λ t. absurd (rw t at q))
+      (λ t. elim (rw t at q) [ inl e ↦ (omega arith, ap (colorOf colors) e ∙ is-colored-false colors n t) | inr z ↦ absurd z ])
+]
+
+pub member-uncolored : (colors : List ℕ) (n v : ℕ) → v < n → colorOf colors v ≡ noColor → Mem v (uncolored colors n)
+unfolding uncolored
+member-uncolored colors zero v h e = absurd (not-suc-le-zero h)
+member-uncolored colors (suc n) v h e = elim (dec-eq v n) [
+  | inl p ↦ mem-append-right v (uncolored colors n) (keep (not (isColored colors n)) n []) (rw (uncolored-false colors n (ap (colorOf colors) (sym p) ∙ e)) (inl p))
+  | inr p ↦ mem-append-left v (uncolored colors n) (keep (not (isColored colors n)) n []) (member-uncolored colors n v (omega arith) e)
+]
+
+-- each once.
+pub uncolored-nodup : (colors : List ℕ) (n : ℕ) → Nodup (uncolored colors n)
+unfolding uncolored
+uncolored-nodup colors zero = tt
+uncolored-nodup colors (suc n) = nodup-append (uncolored colors n) (keep (not (isColored colors n)) n []) (uncolored-nodup colors n)
+    (by-test (isColored colors n) (λ t. rw t tt) (λ t. rw t (λ z. z, tt)))
+    (λ k p q. by-test (isColored colors n) (λ t. rw t at q) (λ t. elim (rw t at q) [ inl e ↦ omega (arith, uncolored-member colors n k p .0) | inr z ↦ z ]))
+
+-- There are at most n.
+pub uncolored-few : (colors : List ℕ) (n : ℕ) → length (uncolored colors n) ≤ n
+uncolored-few colors n = nodup-bound n (uncolored colors n) (uncolored-nodup colors n) (λ k p. uncolored-member colors n k p .0)
+
+-- One that takes a colour is one of them less.
+pub uncolored-less : (colors : List ℕ) (n v c : ℕ) → n ≤ length colors → Mem v (uncolored colors n) → c ≢ noColor → length (uncolored (set colors v c) n) < length (uncolored colors n)
+uncolored-less colors n v c l p d =
+    let h = uncolored-member colors n v p in
+    let here = color-set-same colors v c (omega (arith, h .0)) in
+    pigeonhole (v ∷ uncolored (set colors v c) n) (uncolored colors n)
+    (λ q. d (sym here ∙ uncolored-member (set colors v c) n v q .1), uncolored-nodup (set colors v c) n)
+    (λ k q. elim q [
+      | inl e ↦ rw e p
+      | inr r ↦
+          let s = uncolored-member (set colors v c) n k r in
+          elim (dec-eq k v) [ inl e ↦ rw e p | inr e ↦ member-uncolored colors n k (s .0) (sym (color-set-other colors v c k e) ∙ s .1) ]
+    ])
+
+-- ---- Laws of colouring turn by turn: what holds of the colours so far.
 
 -- Those of these items that are not v: its other neighbours, for its own loop makes an item a neighbour of itself.
 unfoldable pub others : ℕ → List ℕ → List ℕ
@@ -152,3 +220,53 @@ module _ (nb : ℕ → List ℕ) (n : ℕ) (hood : Neighborhood nb n) where
         | inl e ↦ r .1 v (all v h e)
         | inr d ↦ λ z. d (sym (r .0 .kept v d) ∙ z)
       ])
+
+-- ---- The neighbours of a graph's nodes, and how great an item's colour can be.
+
+pub node-neighborhood : (n : ℕ) (ends : List ℕ) → Passed n ends → Neighborhood (neighbors ends (edgeCount ends)) n
+node-neighborhood n ends p = record {
+  items = omega (arith, p .nodes);
+  inside = λ v w h q. passed-neighbor n ends p v w q;
+  symmetric = λ v w h q. neighbor-symmetric ends (edgeCount ends) v w q;
+  times = λ v w h k d. neighbor-times ends (edgeCount ends) v w d;
+  few = λ v h. omega (arith, passed-degree n ends p v);
+}
+
+-- The neighbours of its edges: those that share an end.
+pub edge-neighborhood : (n : ℕ) (ends : List ℕ) → Passed n ends → Neighborhood (edgeNeighbors n ends) (edgeCount ends)
+unfolding edgeNeighbors
+edge-neighborhood n ends p =
+    let m = edgeCount ends in
+    let pairs = linePairs ends m n in
+    record {
+      items = omega (arith, p .edges);
+      inside = λ v w h q. neighbor-inside pairs (edgeCount pairs) m v w (pair-ends-inside ends m n) q;
+      symmetric = λ v w h q. neighbor-symmetric pairs (edgeCount pairs) v w q;
+      times = λ v w h k d. neighbor-times pairs (edgeCount pairs) v w d;
+      few = λ v h. rw (line-neighbors ends m n v (passed-inside n ends p) h) (omega (arith, line-neighbor-bound ends m v h, p .edges));
+    }
+
+pub edge-neighbors : (n : ℕ) (ends : List ℕ) → Passed n ends → (k : ℕ) → k < edgeCount ends → edgeNeighbors n ends k ≡ lineNeighbors ends (edgeCount ends) k
+unfolding edgeNeighbors
+edge-neighbors n ends p k h = line-neighbors ends (edgeCount ends) n k (passed-inside n ends p) h
+
+pub sharing-neighbor : (n : ℕ) (ends : List ℕ) → Passed n ends → (j k v : ℕ) → j < edgeCount ends → k < edgeCount ends → j ≢ k → At ends j v → At ends k v → Mem k (edgeNeighbors n ends j)
+sharing-neighbor n ends passed j k v h g d p q = rw (edge-neighbors n ends passed j h) (member-line-neighbor ends (edgeCount ends) j k v h g (λ e. d (sym e)) p q)
+
+other-member : (v w : ℕ) (ws : List ℕ) → Mem w ws → w ≢ v → Mem w (others v ws)
+unfolding others
+other-member v w (x ∷ ws) (inl e) d = rw (ne-eqb x v (λ z. d (rw e z))) (inl e)
+other-member v w (x ∷ ws) (inr p) d = by-test (eqb x v) (λ t. rw t (other-member v w ws p d)) (λ t. rw t (inr (other-member v w ws p d)))
+
+-- "The smallest" means: the colour of an item without a preset is at most the number of its different other neighbours.
+pub greedy-bound : (nb : ℕ → List ℕ) (n : ℕ) (presets colors : List ℕ) → Greedy nb n presets colors → (v : ℕ) → v < n → colorOf presets v ≡ noColor → colorOf colors v ≤ different (others v (nb v))
+unfolding different
+greedy-bound nb n presets colors g v h e =
+    let ws = distinct (others v (nb v)) in
+    omega (
+      arith,
+      length-map ws (colorOf colors),
+      cover-bound (colorOf colors v) (map (colorOf colors) ws) (λ c b.
+          let r = g .supported v h e c b in
+          subst (λ (x : ℕ). Mem x (map (colorOf colors) ws)) (r .3) (mem-map (colorOf colors) (r .0) ws (member-distinct (others v (nb v)) (r .0) (other-member v (r .0) (nb v) (r .1) (r .2))))),
+    )

@@ -12,7 +12,7 @@ use Rattle.greedy.specs.Degree.{degreeOrder, degreeColors}
 use Rattle.greedy.proofs.TurnLaws.{in-order-greedy}
 use Rattle.greedy.specs.declared.ColoringStrategy.{ColoringStrategy}
 use Rattle.greedy.specs.Call.{Rule, ruleOf, greedyNodes, greedyNodesPlain, greedyEdges, greedyEdgesPlain, PrecoloringKept, ProperNodeColoring, ProperEdgeColoring}
-use Rattle.greedy.proofs.CallerLaws.{GreedyRule, nodes-accept, edges-accept, precoloring-kept, proper-nodes, edge-precoloring-kept, proper-edges, nodes-plain-same, edges-plain-same, proper-nodes-without-presets, proper-edges-without-presets}
+use Rattle.greedy.proofs.CallLaws.{GreedyRule, nodes-accept, edges-accept, precoloring-kept, proper-nodes, edge-precoloring-kept, proper-edges, nodes-plain-same, edges-plain-same, proper-nodes-without-presets, proper-edges-without-presets}
 use Rattle.greedy.specs.IndependentSet.{independentSetColors}
 use Rattle.independent_set.proofs.IndependentSetLaws.{independent-set-greedy}
 use Rattle.degree.proofs.OrderLaws.{order-member, member-order, order-nodup}

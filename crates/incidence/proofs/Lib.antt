@@ -1,4 +1,3 @@
 -- Laws of what specs/ defines.
 pub mod FillLaws
 pub mod IncidenceLaws
-pub mod FrontLaws

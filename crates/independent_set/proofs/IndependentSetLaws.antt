@@ -10,9 +10,9 @@ use Rattle.lists.specs.Member.{Mem, Nodup}
 use Rattle.lists.proofs.MemberLaws.{mem-getD, cover-bound}
 use Rattle.graph.specs.Color.{noColor}
 use Rattle.graph.specs.Colored.{colorOf}
-use Rattle.graph.proofs.ColoredLaws.{color-set-same, color-set-other}
+use Rattle.graph.proofs.ColorLaws.{color-set-same, color-set-other}
 use Rattle.greedy.specs.Turn.{uncolored}
-use Rattle.greedy.proofs.UncoloredLaws.{uncolored-member, member-uncolored, uncolored-nodup}
+use Rattle.greedy.proofs.TurnLaws.{uncolored-member, member-uncolored, uncolored-nodup}
 use Rattle.greedy.specs.IndependentSet.{takeOut, Lists, putOffAll, Round, putOffPresets, colorListed, round, rounds, independentSetColors}
 use Rattle.greedy.specs.Greedy.{Neighborhood, Greedy}
 use Rattle.independent_set.proofs.RoundsLaws.{take-out-length, put-off-length, color-front, color-empty, list-empty}

@@ -14,7 +14,7 @@ use borrow.Author.Tests.{eqb-true, eqb-false}
 use Rattle.lists.proofs.Tests.{by-test, dec-eq}
 use Rattle.lists.specs.Member.{Mem, elem}
 use Rattle.lists.proofs.MemberLaws.{elem-true, mem-elem, not-mem-elem, mem-getD, place-of}
-use Rattle.graph.proofs.ColoredLaws.{color-read, colored-true, uncolored-false}
+use Rattle.graph.proofs.ColorLaws.{color-read, colored-true, uncolored-false}
 use Rattle.greedy.specs.Turn.{uncolored}
 use Rattle.greedy.specs.IndependentSet.{placeOf, takeOut, Lists, putOff}
 use Rattle.independent_set.specs.Listing.{Listing, Held, listsAt}

@@ -21,7 +21,7 @@ use Rattle.graph.specs.Stretch.{stretch}
 use Rattle.line_list.specs.LineNeighbors.{laterAt, earlierAt, higherEnd, lowerEnd, lineNeighbors}
 use Rattle.line_list.proofs.LineNeighborLaws.{loop-neighbors, apart-neighbors}
 use Rattle.line_list.proofs.PairLaws.{before-member, after-member}
-use Rattle.greedy.proofs.GreedyLaws.{edge-neighbors}
+use Rattle.greedy.proofs.TurnLaws.{edge-neighbors}
 use Rattle.greedy.specs.IndependentSet.{Lists, putOff, putOffAll}
 use Rattle.independent_set.specs.declared.items.Items.{Items}
 use Rattle.independent_set.specs.Items.{neighborsOf, Tabled}

@@ -14,7 +14,7 @@ use Rattle.lists.specs.Member.{Mem, elem}
 use Rattle.lists.proofs.MemberLaws.{not-mem-elem}
 use Rattle.lists.specs.Parts.{copiedOver}
 use Rattle.graph.specs.Colored.{colorOf}
-use Rattle.graph.proofs.ColoredLaws.{color-read}
+use Rattle.graph.proofs.ColorLaws.{color-read}
 use Rattle.greedy.specs.Turn.{uncolored}
 use Rattle.greedy.specs.IndependentSet.{takeOut, Lists, putOff, putOffAll, Round, putOffPresets, colorListed, round, rounds, independentSetColors}
 use Rattle.independent_set.specs.Listing.{Listing, Held, listsAt}

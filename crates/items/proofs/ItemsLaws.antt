@@ -20,11 +20,10 @@ use Rattle.line_list.proofs.LineNeighborLaws.{line-neighbor-member, line-neighb
 use Rattle.greedy.specs.Greedy.{Neighborhood}
 use Rattle.graph.specs.Color.{smallestFrom, noColor}
 use Rattle.graph.specs.Colored.{colorOf, smallestFreeAt}
-use Rattle.greedy.proofs.GreedyLaws.{node-neighborhood, edge-neighborhood, edge-neighbors, sharing-neighbor}
+use Rattle.greedy.proofs.TurnLaws.{node-neighborhood, edge-neighborhood, edge-neighbors, sharing-neighbor}
 use Rattle.smallest_color.specs.Marks.{farColors}
-use Rattle.smallest_color.proofs.MarksLaws.{smallest-color-node}
+use Rattle.smallest_color.proofs.MarksLaws.{smallest-color-node, smallest-color-edge}
 use Rattle.smallest_color.specs.EdgeMarks.{colorsOf}
-use Rattle.smallest_color.proofs.EdgeMarksLaws.{smallest-color-edge}
 use Rattle.items.specs.declared.Kind.{Kind}
 use Rattle.items.specs.declared.Kind.the-variants.{Nodes, Edges}
 use Rattle.items.specs.Items.{itemsOf, firstNode, secondNode, acrossOf, ownOf, neighborsOf, countAt, neighborCount, freeColor, Sized, Tabled}

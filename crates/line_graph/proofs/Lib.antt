@@ -1,4 +1,3 @@
 -- Laws of what specs/ defines.
 pub mod CallLaws
-pub mod PlacedLaws
 pub mod WrittenPairsLaws

@@ -11,9 +11,8 @@ use lib.ListN.{length, getD, length-append, length-reverse}
 use borrow.Author.Tests.{eq-eqb, ne-eqb, ltb-true, ltb-false}
 use Rattle.lists.proofs.Tests.{by-test, dec-eq}
 use Rattle.lists.specs.Member.{Mem, Nodup}
-use Rattle.lists.proofs.MemberLaws.{mem-append, mem-append-left, mem-append-right, mem-getD}
+use Rattle.lists.proofs.MemberLaws.{mem-append, mem-append-left, mem-append-right, mem-getD, count-append, count-here, count-there, count-none}
 use Rattle.lists.specs.Different.{count}
-use Rattle.lists.proofs.DifferentLaws.{count-append, count-here, count-there, count-none}
 use Rattle.graph.specs.Edges.{edgeCount, firstEnd, secondEnd, isLoop, edgesAt, degree, neighbors, At}
 use Rattle.graph.proofs.EdgeLaws.{edge-at, at-edge, edges-at-nodup}
 use Rattle.graph.proofs.NeighborLaws.{degree-bound}

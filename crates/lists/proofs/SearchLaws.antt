@@ -1,18 +1,51 @@
--- Laws of what specs/Search defines.
-use Prim.Native.Nat.{ℕ, zero, suc, _+_, _≤_, _<_}
-use mathlib.Core.Path.{_≡_, refl, sym, ap, _∙_}
-use mathlib.Core.Logic.{inl, inr}
+-- Laws of searches, of equal lists, and of a list made place by place.
+use Prim.Native.Nat.{ℕ, zero, suc, _<_, _+_, _≤_}
+use mathlib.Core.Bool.{true, false≢true, Bool, false, _&&_}
 use mathlib.Core.List.{List, [], _∷_, _++_}
-use mathlib.Core.Bool.{Bool, true, false, _&&_, false≢true}
+use mathlib.Core.Path.{_≡_, refl, ap₂, sym, ap, _∙_}
+use lib.Dec.{eqb, ltb}
+use borrow.Author.Tests.{eqb-true, eq-eqb, lt-ltb, le-ltb, ltb-true}
+use Rattle.lists.proofs.Tests.{and-true, true-and, dec-eq, and-right, and-false, and-assoc, or-false}
+use Rattle.lists.specs.Equal.{equal}
+use mathlib.Core.Logic.{inl, inr}
 use native.Mathlib.Omega.{arith}
-use native.Mathlib.Numerals.{add-one}
 use native.Mathlib.Nat.{not-suc-le-zero}
-use lib.ListN.{length, getD, take}
-use lib.Seq.{take-all}
-use lib.Dec.{ltb}
-use borrow.Author.Tests.{lt-ltb, le-ltb, ltb-true}
-use Rattle.lists.proofs.Tests.{true-and, dec-eq, and-true, and-right, and-false, and-assoc, or-false}
+use lib.ListN.{length, getD, length-append, List·getD-append, take}
+use lib.Seq.{getD-append-seam, take-all}
+use Rattle.lists.specs.Tabulate.{tabulate}
+use native.Mathlib.Numerals.{add-one}
 use Rattle.lists.specs.Search.{allBelow, any}
+
+-- ---- Laws of what specs/Equal defines.
+
+pub equal-true : (xs ys : List ℕ) → equal xs ys ≡ true → xs ≡ ys
+unfolding equal
+equal-true [] [] e = refl
+equal-true [] (y ∷ ys) e = absurd (false≢true e)
+equal-true (x ∷ xs) [] e = absurd (false≢true e)
+equal-true (x ∷ xs) (y ∷ ys) e = let r = and-true (eqb x y) (equal xs ys) e in ap₂ (λ (a : ℕ) (l : List ℕ). a ∷ l) (eqb-true x y (r .0)) (equal-true xs ys (r .1))
+
+pub equal-self : (xs : List ℕ) → equal xs xs ≡ true
+unfolding equal
+equal-self [] = refl
+equal-self (x ∷ xs) = true-and (eqb x x) (equal xs xs) (eq-eqb x x refl) (equal-self xs)
+
+-- ---- Laws of what specs/Tabulate defines.
+
+pub length-tabulate : (f : ℕ → ℕ) (n : ℕ) → length (tabulate f n) ≡ n
+unfolding tabulate
+length-tabulate f zero = refl
+length-tabulate f (suc n) = length-append (tabulate f n) (f n ∷ []) ∙ omega (arith, length-tabulate f n)
+
+pub tabulate-at : (f : ℕ → ℕ) (n i : ℕ) → i < n → getD (tabulate f n) i 0 ≡ f i
+unfolding tabulate
+tabulate-at f zero i h = absurd (not-suc-le-zero h)
+tabulate-at f (suc n) i h = elim (dec-eq i n) [
+  | inl p ↦ rw p (ap (λ (j : ℕ). getD (tabulate f n ++ (f n ∷ [])) j 0) (sym (length-tabulate f n)) ∙ getD-append-seam (tabulate f n) (f n) [] 0)
+  | inr q ↦ List·getD-append (tabulate f n) (f n ∷ []) 0 i (rw (length-tabulate f n) (omega arith)) ∙ tabulate-at f n i (omega arith)
+]
+
+-- ---- Laws of what specs/Search defines.
 
 pub all-below-at : (n : ℕ) (xs : List ℕ) → allBelow n xs ≡ true → (i : ℕ) → i < length xs → getD xs i 0 < n
 unfolding allBelow

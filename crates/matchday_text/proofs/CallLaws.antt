@@ -1,29 +1,250 @@
--- Laws of a call's text: one for each answer, and the places that are lent.
-use Prim.Native.Nat.{ℕ, _≤_, min}
-use mathlib.Core.Path.{_≡_, sym, ap, _∙_}
-use mathlib.Core.Logic.{inl, inr}
-use mathlib.Core.List.{List}
-use mathlib.Core.Option.{some}
+-- Laws of the text: its greatest length, the text of a file, the call, the example.
+use Prim.Native.Nat.{ℕ, zero, suc, _+_, _*_, _≤_, _<_, min}
+use mathlib.Core.Path.{_≡_, refl, sym, ap, _∙_}
+use mathlib.Core.Logic.{inl, inr, _⊎_}
+use mathlib.Core.List.{List, [], _∷_, _++_}
+use mathlib.Core.Option.{none, some, Option, bind}
 use native.Mathlib.Omega.{arith}
-use native.Mathlib.Decide.{decLt}
-use lib.ListN.{length, take, replicate}
+use lib.Dec.{ltb}
+use lib.ListN.{length, take, replicate, length-append, drop}
+use borrow.Author.Tests.{ltb-true}
+use Rattle.lists.specs.Member.{Mem}
+use Rattle.lists.proofs.MemberLaws.{place-of}
+use Rattle.graph.specs.Check.{firstRefusal, graphChecks, numbersPass}
+use Rattle.graph.proofs.CheckLaws.{refusal-passes, answered-accepted, answered-refused, passed, refused-first}
+use Rattle.graph.specs.Edges.{edgeCount, firstEnd, secondEnd}
+use Rattle.graph.specs.Color.{colored, daysOf, noColor, Outcome}
+use Rattle.graph.proofs.ColorLaws.{last-day, color-read}
+use Rattle.graph.specs.Colored.{colorOf}
+use Rattle.vizing.specs.MisraGries.{misraGries, misraGriesChecks, held}
+use Rattle.vizing.specs.Demand3.{Admitted}
+use Rattle.vizing.proofs.Theorem.{max-degree-bound, passed-admitted, demand3, misra-gries-colors, checks-pass}
+use Rattle.vizing.proofs.DefinitionLaws.{some-or-none}
+use Rattle.matchday_text.specs.Text.{followed, decimal, line, edgeLine, edgeLines, daysText, refusedText, reportText, outcomeText, coloredText, daysWord, refusedWord, space, lineFeed, fileText, digits}
+use Rattle.matchday_text.proofs.PutLaws.{decimal-length, put-front}
+use mathlib.Core.Bool.{true}
+use lib.Seq.{take-append-seam}
 use Rattle.lists.specs.Parts.{copiedOver}
-use Rattle.lists.proofs.PartsLaws.{take-replicate}
+use Rattle.lists.specs.Search.{allBelow}
 use Rattle.graph.specs.Report.{number, reportOfColoring}
-use Rattle.graph.specs.Check.{firstRefusal, graphChecks}
-use Rattle.graph.proofs.CheckLaws.{passed, refused-first}
-use Rattle.graph.specs.Edges.{edgeCount}
-use Rattle.graph.specs.Color.{Outcome, noColor}
+use Rattle.graph.specs.Table.{over}
 use Rattle.graph.specs.declared.Refusal.{Refusal}
+use Rattle.graph_file.specs.File.{File, fileOf, fields, fieldsUpTo, graphOf}
+use Rattle.graph_file.specs.Report.{reportOfFile}
+use Rattle.graph_file.specs.Layout.{LaidOut, FileReader}
+use Rattle.graph_file.proofs.LayoutLaws.{read-laid, laid-out, read-bytes}
+use Rattle.graph_file.specs.declared.FileAnswer.{FileAnswer}
+use Rattle.graph_file.specs.declared.FileAnswer.the-variants as F
+use Rattle.matchday_text.specs.Put.{Put, Room}
+use native.Mathlib.Decide.{decLt}
+use Rattle.lists.proofs.PartsLaws.{take-replicate}
 use Rattle.graph.specs.declared.Coloring.{Coloring}
 use Rattle.graph.specs.declared.Coloring.the-variants as O
 use Rattle.vizing.specs.Clause.{VizingColoring}
-use Rattle.vizing.specs.MisraGries.{misraGries, misraGriesChecks}
-use Rattle.vizing.proofs.DefinitionLaws.{some-or-none}
-use Rattle.matchday_text.specs.Text.{daysText, refusedText, reportText, outcomeText, coloredText}
-use Rattle.matchday_text.specs.Put.{Put, Room}
-use Rattle.matchday_text.proofs.PutLaws.{put-front}
-use Rattle.matchday_text.proofs.Bound.{outcome-bound, refuses}
+use Rattle.vizing.specs.Demand3Examples.{listP13}
+use Rattle.vizing.proofs.ClauseLaws.{p13-admitted, p13-colors, runs}
+use Rattle.matchday_text.specs.Examples.{exampleFile, exampleText, example-file, example-lines, ExamplePrinted, EmptyFileRefused}
+
+-- ---- How long a text can be: numbers below 100,000 have five digits, and there are at most 4,096 edges.
+
+-- ---- lines
+
+append-bound : (s t : List ℕ) (i j : ℕ) → length s ≤ i → length t ≤ j → length (s ++ t) ≤ i + j
+append-bound s t i j p q = rw (length-append s t) (omega arith)
+
+followed-length : (x byte : ℕ) → x < 100000 → length (followed x byte) ≤ 6
+unfolding followed
+followed-length x byte h = append-bound (decimal x) (byte ∷ []) 5 1 (decimal-length x h) (omega arith)
+
+module _ (ends colors : List ℕ) where
+  -- The numbers of the first m edges are below 100,000.
+  pub record Small (m : ℕ) : Type 0 where
+    pub number : m ≤ 100000
+    pub inside : (k : ℕ) → k < m → (firstEnd ends k < 100000) × (secondEnd ends k < 100000)
+    pub color : (k : ℕ) → k < m → colorOf colors k < 100000
+
+  line-length : (m k : ℕ) → Small m → k < m → length (edgeLine ends colors k) ≤ 24
+  unfolding edgeLine line
+  line-length m k s h =
+      let a = followed k space in
+      let b = followed (firstEnd ends k) space in
+      let c = followed (secondEnd ends k) space in
+      let d = followed (colorOf colors k) lineFeed in
+      append-bound (a ++ b ++ c) d 18 6
+      (append-bound (a ++ b) c 12 6
+      (append-bound a b 6 6 (followed-length k space (omega (arith, s .number))) (followed-length (firstEnd ends k) space (s .inside k h .0)))
+      (followed-length (secondEnd ends k) space (s .inside k h .1)))
+      (followed-length (colorOf colors k) lineFeed (s .color k h))
+
+  lines-length : (m k : ℕ) → Small m → k ≤ m → length (edgeLines ends colors k) ≤ 24 * k
+  unfolding edgeLines
+  lines-length m zero s h = omega arith
+  lines-length m (suc k) s h =
+      rw (length-append (edgeLines ends colors k) (edgeLine ends colors k)) (omega (arith, lines-length m k s (omega arith), line-length m k s (omega arith)))
+
+  -- ---- the two texts
+
+  days-length : (days : ℕ) → days < 100000 → edgeCount ends ≤ 4096 → Small (edgeCount ends) → length (daysText days ends colors) ≤ 98330
+  unfolding daysText
+  days-length days h k s =
+      let d = followed days lineFeed in
+      let l = edgeLines ends colors (edgeCount ends) in
+      append-bound (daysWord ++ d) l 11 98319
+      (append-bound daysWord d 5 6 (omega arith) (followed-length days lineFeed h))
+      (omega (arith, lines-length (edgeCount ends) (edgeCount ends) s (omega arith)))
+
+pub refused-length : (number : ℕ) → number < 100000 → length (refusedText number) ≤ 14
+unfolding refusedText
+refused-length number h = append-bound refusedWord (followed number lineFeed) 8 6 (omega arith) (followed-length number lineFeed h)
+
+-- ---- the numbers of the checks
+
+pub refused-below : (n : ℕ) (ends lent : List ℕ) (k : ℕ) → firstRefusal (misraGriesChecks n ends lent) ≡ some k → k < 8
+unfolding misraGriesChecks graphChecks numbersPass
+refused-below n ends lent k e = ltb-true k 8 (refusal-passes (λ (j : ℕ). ltb j 8) (misraGriesChecks n ends lent) k refl e)
+
+-- ---- the days
+
+length-take-bound : (n : ℕ) (l : List ℕ) → length (take n l) ≤ n
+length-take-bound zero l = omega arith
+length-take-bound (suc n) [] = omega arith
+length-take-bound (suc n) (x ∷ l) = omega (arith, length-take-bound n l)
+
+days-bound : (cs : List ℕ) (b : ℕ) → ((c : ℕ) → Mem c cs → c < b) → daysOf cs ≤ b
+days-bound cs b h = go (daysOf cs) refl
+  where
+    go : (d : ℕ) → daysOf cs ≡ d → d ≤ b
+    go zero e = omega arith
+    go (suc d) e = h d (last-day cs d e .0)
+
+-- ---- the text of a call
+
+module _ (n : ℕ) (ends lent : List ℕ) where
+  pub refuses : (k : ℕ) → firstRefusal (misraGriesChecks n ends lent) ≡ some k → outcomeText ends (misraGries n ends lent) ≡ refusedText k
+  unfolding outcomeText misraGries colored reportText
+  refuses k e = rw (sym (answered-refused (misraGriesChecks n ends lent) k (daysOf (take (edgeCount ends) (held n ends (edgeCount ends)))) e))
+
+  pub accepts : firstRefusal (misraGriesChecks n ends lent) ≡ none → outcomeText ends (misraGries n ends lent) ≡ daysText (daysOf (take (edgeCount ends) (held n ends (edgeCount ends)))) ends (misraGries n ends lent .colors)
+  unfolding outcomeText misraGries colored reportText
+  accepts e = rw (sym (answered-accepted (misraGriesChecks n ends lent) (daysOf (take (edgeCount ends) (held n ends (edgeCount ends)))) e))
+
+  -- An accepted call's days and colours are small numbers: no colour is above D, and D is at most m.
+  colors-below : Admitted n ends → length lent ≡ edgeCount ends → (k : ℕ) → k < edgeCount ends → colorOf (misraGries n ends lent .colors) k ≤ 4096
+  colors-below a l k h = omega (arith, demand3 n ends lent a l .accurate .range k h, max-degree-bound ends (edgeCount ends) n, a .edges)
+
+  days-below : Admitted n ends → length lent ≡ edgeCount ends → daysOf (take (edgeCount ends) (held n ends (edgeCount ends))) ≤ 4097
+  days-below a l =
+      let m = edgeCount ends in
+      let cs = take m (held n ends m) in
+      days-bound cs 4097 (λ c p.
+      let q = place-of c cs noColor p in
+      let e = misra-gries-colors n ends lent a l in
+      let b = colors-below a l (q .0) (omega (arith, q .1, length-take-bound m (held n ends m))) in
+      omega (arith, rw e at b, q .2, color-read cs (q .0) noColor (q .1)))
+
+  -- The text of every call has this many bytes at most.
+  pub outcome-bound : length (outcomeText ends (misraGries n ends lent)) ≤ 98330
+  outcome-bound = elim (some-or-none (firstRefusal (misraGriesChecks n ends lent))) [
+    | inl e ↦
+        let p = passed-admitted n ends lent e in
+        let a = p .0 in
+        rw (accepts e) (days-length ends (misraGries n ends lent .colors) _ (omega (arith, days-below a (p .1))) (a .edges)
+        (record {
+          number = omega (arith, a .edges);
+          inside = λ k h. let b = a .inside k h in (omega (arith, b .0, a .nodes), omega (arith, b .1, a .nodes));
+          color = λ k h. omega (arith, colors-below a (p .1) k h);
+        }))
+    | inr (k, e) ↦ rw (refuses k e) (omega (arith, refused-length k (omega (arith, refused-below n ends lent k e))))
+  ]
+
+pub colored-bound : (n : ℕ) (ends : List ℕ) → length (coloredText n ends) ≤ 98330
+unfolding coloredText
+colored-bound n ends = outcome-bound n ends (replicate (edgeCount ends) noColor)
+
+-- ---- Laws of a file's text: what is read is the file's graph, and the text of every file has room in 98,330 bytes.
+
+file-or-none : (o : Option File) → (o ≡ none) ⊎ ((file : File) × (o ≡ some file))
+file-or-none none = inl refl
+file-or-none (some file) = inr (file, refl)
+
+pub no-file-text : (bytes : List ℕ) → fileOf bytes ≡ none → fileText bytes ≡ refusedText 10
+unfolding fileText
+no-file-text bytes e = rw (e, fileText)
+
+pub file-text : (bytes : List ℕ) (file : File) → fileOf bytes ≡ some file → fileText bytes ≡ coloredText (file .nodes) (file .ends)
+unfolding fileText
+file-text bytes file e = rw (e, fileText)
+
+-- ---- the length
+
+-- A buffer of 98,330 bytes has room for the text of every file.
+pub text-bound : (bytes : List ℕ) → length (fileText bytes) ≤ 98330
+text-bound bytes = elim (file-or-none (fileOf bytes)) [
+  | inl e ↦ rw (no-file-text bytes e) (omega (arith, refused-length 10 (omega arith)))
+  | inr (file, e) ↦ rw (file-text bytes file e) (colored-bound (file .nodes) (file .ends))
+]
+
+pub text-fits : (bytes : List ℕ) (r : ℕ) → r ≡ length (fileText bytes) → r ≤ 98330
+text-fits bytes r e = omega (arith, e, text-bound bytes)
+
+-- The front of a list that another was written over.
+written-front : (file lent ends : List ℕ) (k : ℕ) → k ≡ length file → ends ≡ over file lent → take k ends ≡ file
+written-front file lent ends k h e = rw (h, e) (take-append-seam file (drop (length file) lent))
+
+-- ---- a refused reading
+
+module _ (bytes lent : List ℕ) (c : FileAnswer) (ends : List ℕ) (room : length lent ≡ 8192) (reader : FileReader bytes lent (reportOfFile c) ends) where
+  module _ (r : Refusal) (p : c ≡ F.Refused r) (x : ℕ) (q : x ≡ number r) (below : allBelow 256 bytes ≡ true) where
+    -- With room for the ends of every file only bytes without the layout are refused.
+    no-file : fileOf bytes ≡ none
+    no-file = elim (file-or-none (fileOf bytes)) [
+      | inl e ↦ e
+      | inr (file, e) ↦
+          let l = laid-out bytes file below e .0 in
+          let a = reader .reads (file .nodes) (file .ends) l (omega (arith, l .even, l .edges)) .0 in
+          let b = ap reportOfFile p in
+          let z : _≡_ {A = ℕ} 0 1 = cc in
+          absurd (omega arith)
+    ]
+
+    ten : x ≡ 10
+    ten =
+        let a = reader .bad (λ n file l. let b = read-laid bytes n file l in let e = no-file in let z : _≡_ {A = ℕ} 0 1 = cc in omega arith) in
+        let b = ap reportOfFile p in
+        let i : number r ≡ 10 = cc in
+        q ∙ i
+
+    unread-whole : fileText bytes ≡ refusedText x
+    unread-whole = no-file-text bytes no-file ∙ ap refusedText (sym ten)
+
+    pub unread-room : Room 0 (refusedText x)
+    unread-room = record { below = let b = refused-length x (omega (arith, ten)) in omega (arith, b) }
+
+    pub unread-text : (before after : List ℕ) (end : ℕ) → Put before 0 (refusedText x) after end → (end ≡ length (fileText bytes)) × (after ≡ copiedOver (fileText bytes) before)
+    unread-text before after end put = rw unread-whole (put-front before (refusedText x) after end put)
+
+  -- ---- a file that was read
+
+  module _ (n m tags : ℕ) (p : c ≡ F.Accepted n m tags) where
+    found : (file : List ℕ) × LaidOut bytes n file × (edgeCount file ≡ m) × (tags ≡ 3) × (ends ≡ over file lent)
+    found = reader .laid n m tags (ap reportOfFile p)
+
+    pub read-edges : m ≤ 4096
+    read-edges = let f = found in omega (arith, f .1 .edges, f .2)
+
+    -- The ends of the file are the first 2m numbers of the list.
+    pub read-ends : fileText bytes ≡ coloredText n (take (2 * m) ends)
+    read-ends =
+        let f = found in
+        let l = f .1 in
+        let k : 2 * m ≡ length (f .0) = omega (arith, l .even, f .2) in
+        let e : take (2 * m) ends ≡ f .0 = written-front (f .0) lent ends (2 * m) k (f .4) in
+        file-text bytes (record { nodes = n; ends = f .0; tags = 3 }) (read-laid bytes n (f .0) l) ∙ ap (coloredText n) (sym e)
+
+    pub read-text : (before after : List ℕ) (end : ℕ) → end ≡ length (coloredText n (take (2 * m) ends)) → after ≡ copiedOver (coloredText n (take (2 * m) ends)) before → (end ≡ length (fileText bytes)) × (after ≡ copiedOver (fileText bytes) before)
+    read-text before after end h k = rw read-ends (h, k)
+
+-- ---- Laws of a call's text: one for each answer, and the places that are lent.
 
 -- ---- the answers of a call
 
@@ -91,3 +312,20 @@ pub graph-done : (n : ℕ) (ends : List ℕ) (m : ℕ) (before after : List ℕ)
 graph-done n ends m before after end h p q =
     let e = ap (λ (i : ℕ). outcomeText ends (misraGries n ends (take i (replicate 4096 noColor)))) h ∙ lent-places n ends in
     (p ∙ ap length e, q ∙ ap (λ (l : List ℕ). copiedOver l before) e)
+
+-- ---- The texts of the examples are those printed there.
+
+example-colored : coloredText 4 listP13 ≡ exampleText
+unfolding coloredText daysOf
+example-colored =
+    accepts 4 listP13 (replicate 4 noColor) (checks-pass 4 listP13 (replicate 4 noColor) p13-admitted refl)
+    ∙ ap (daysText _ listP13) p13-colors
+    ∙ ap (λ (cs : List ℕ). daysText (daysOf cs) listP13 (2 ∷ 1 ∷ 0 ∷ 2 ∷ [])) (runs .3)
+    ∙ example-lines
+
+pub example : ExamplePrinted
+example = file-text exampleFile (record { nodes = 4; ends = listP13; tags = 3 }) (ap fileOf example-file ∙ read-bytes 4 listP13 refl (omega arith)) ∙ example-colored
+
+pub empty-file : EmptyFileRefused
+unfolding bind fileOf fields fieldsUpTo graphOf refusedText followed decimal digits
+empty-file = no-file-text [] refl

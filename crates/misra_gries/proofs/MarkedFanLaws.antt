@@ -19,7 +19,7 @@ use Rattle.graph.specs.Color.{noColor}
 use Rattle.graph.specs.Colored.{colorOf, isColored}
 use Rattle.vizing.specs.MisraGries.{isFree, joins, firstJoining, fanOf}
 use Rattle.vizing.proofs.StepForm.{growFan, fan-form}
-use Rattle.graph.proofs.ColoredLaws.{is-colored-true}
+use Rattle.graph.proofs.ColorLaws.{is-colored-true}
 use Rattle.vizing.proofs.DefinitionLaws.{first-joining-some}
 use Rattle.vizing.specs.Simple.{Incident}
 use Rattle.vizing.proofs.Fan.{fan-at, Grown, grown-fan, fan-nodup, fan-grown, fan-length}

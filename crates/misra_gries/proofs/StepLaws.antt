@@ -1,22 +1,25 @@
--- Laws of the step's parts, as the code has them: the path exchanged, the fan rotated, steps 2 to 5.
-use Prim.Native.Nat.{ℕ, suc, _+_, _-_, _*_, _≤_, _<_}
-use mathlib.Core.Path.{_≡_, refl, sym, ap, _∙_}
+-- Laws of a step: colours in range, the path exchanged, the fan rotated.
+use Prim.Native.Nat.{ℕ, zero, suc, _<_, _+_, _-_, _*_, _≤_}
 use mathlib.Core.List.{List, [], _∷_, _++_}
-use mathlib.Core.Bool.{Bool, true}
 use native.Mathlib.Omega.{arith}
+use Rattle.graph.specs.Edges.{edgeCount, firstEnd, secondEnd, farEnd, edgesAt, degree}
+use Rattle.vizing.specs.Demand3.{Admitted, maxDegree}
+use Rattle.vizing.proofs.Theorem.{degree-max, max-degree-bound, max-degree-attained}
+use Rattle.vizing.proofs.StepLaws.{Palette, degree-palette, exchange-none, FoundLaws, found-laws, step-keeps}
+use Rattle.vizing.proofs.SimpleLaws.{degree-below}
+use Rattle.misra_gries.specs.Step.{InRange, Ready, Exchanging, Turning, Turned, topColor}
+use mathlib.Core.Path.{_≡_, refl, sym, ap, _∙_}
+use mathlib.Core.Bool.{Bool, true}
 use native.Mathlib.Nat.{min-le-left}
 use lib.ListN.{length, getD, take, drop, length-append, length-take}
 use lib.Seq.{length-take-le, take-append-le}
 use borrow.Author.Tests.{eq-eqb, ne-eqb}
-use Rattle.graph.specs.Edges.{edgeCount, firstEnd, secondEnd, farEnd, edgesAt, degree}
 use Rattle.graph.specs.Stretch.{stretch}
-use Rattle.vizing.proofs.SimpleLaws.{degree-below}
 use Rattle.misra_gries.specs.MarkedFan.{FanReady}
 use Rattle.graph.proofs.EdgeLaws.{far-first}
 use Rattle.graph.specs.Colored.{smallestFreeAt}
 use Rattle.vizing.specs.MisraGries.{lastOf, fanOf, path, exchange, store, find, step}
 use Rattle.vizing.proofs.StepForm.{lastFarEnd, rotatePlaces, StepParts, stepParts, fan-form, last-form, find-form, step-form}
-use Rattle.vizing.proofs.StepLaws.{exchange-none, FoundLaws, found-laws, step-keeps}
 use Rattle.vizing.specs.Step.{Invariant}
 use Rattle.edge_table.specs.EdgeTable.{state, repainted, isEmpty, smallestEmpty}
 use Rattle.edge_table.specs.TableOf.{TableOf}
@@ -31,8 +34,24 @@ use Rattle.recolor.specs.TablePath.{tablePath}
 use Rattle.recolor.proofs.TablePathLaws.{path-none, path-ended, table-path}
 use Rattle.fan.specs.TablePlaces.{tablePlaces}
 use Rattle.fan.proofs.TablePlacesLaws.{table-places, places-taken}
-use Rattle.misra_gries.proofs.Range.{palette, max-degree-below}
-use Rattle.misra_gries.specs.Step.{InRange, Ready, Exchanging, Turning, Turned, topColor}
+
+-- ---- The colours from 0 to D: enough for every step, and below the table's width.
+
+pub palette : (n : ℕ) (ends : List ℕ) → Admitted n ends → Palette ends (edgeCount ends) n (InRange n ends)
+palette n ends a =
+    let m = edgeCount ends in
+    degree-palette ends m n (maxDegree ends m n) (omega (arith, max-degree-bound ends m n, a .edges)) (degree-max ends m n)
+
+-- D is below the number of nodes, if there are any.
+pub max-degree-below : (n : ℕ) (ends : List ℕ) → Admitted n ends → maxDegree ends (edgeCount ends) n < 576
+unfolding maxDegree
+max-degree-below zero ends a = omega arith
+max-degree-below (suc n) ends a =
+    let m = edgeCount ends in
+    let r = max-degree-attained ends m (suc n) (omega arith) in
+    omega (arith, r .2, degree-below ends m (suc n) (a .simple) (a .inside) (r .0) (r .1), a .nodes)
+
+-- ---- Laws of the step's parts, as the code has them: the path exchanged, the fan rotated, steps 2 to 5.
 
 -- ---- the path exchanged
 

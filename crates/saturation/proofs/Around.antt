@@ -7,21 +7,20 @@ use native.Mathlib.Omega.{arith}
 use lib.ListN.{length, getD}
 use Rattle.lists.proofs.Tests.{dec-eq}
 use Rattle.lists.specs.Member.{Mem}
-use Rattle.lists.proofs.MemberLaws.{mem-getD}
+use Rattle.lists.proofs.MemberLaws.{mem-getD, count-append}
 use Rattle.lists.specs.Different.{count}
-use Rattle.lists.proofs.DifferentLaws.{count-append}
 use Rattle.graph.specs.Edges.{edgeCount, firstEnd, secondEnd, edgesAt, neighbors}
 use Rattle.graph.proofs.EdgeLaws.{edge-at}
 use Rattle.graph.proofs.NeighborLaws.{neighbors-far-ends}
 use Rattle.graph.specs.Stretch.{stretch}
 use Rattle.line_list.proofs.LineNeighborLaws.{line-neighbor-times, line-neighbor-times-loop}
-use Rattle.greedy.proofs.GreedyLaws.{edge-neighbors}
+use Rattle.greedy.proofs.TurnLaws.{edge-neighbors}
 use Rattle.items.specs.declared.Kind.{Kind}
 use Rattle.items.specs.declared.Kind.the-variants.{Nodes, Edges}
 use Rattle.items.specs.Items.{firstNode, secondNode, acrossOf, neighborsOf, Tabled}
 use Rattle.items.proofs.ItemsLaws.{first-inside, second-inside, across-inside}
 use Rattle.color_marks.specs.Around.{acrossAll, along, around}
-use Rattle.color_marks.proofs.AroundLaws.{around-one, around-two}
+use Rattle.color_marks.proofs.MarksLaws.{around-one, around-two}
 use Rattle.saturation.specs.Notes.{Noted, Room}
 use Rattle.saturation.proofs.NotesLaws.{noted-more, room-first, room-left}
 

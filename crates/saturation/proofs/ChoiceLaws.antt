@@ -13,9 +13,9 @@ use Rattle.lists.proofs.Tests.{by-test, dec-eq, and-false, true-or}
 use Rattle.lists.specs.Member.{Mem}
 use Rattle.graph.specs.Color.{noColor}
 use Rattle.graph.specs.Colored.{colorOf}
-use Rattle.graph.proofs.ColoredLaws.{color-read}
+use Rattle.graph.proofs.ColorLaws.{color-read}
 use Rattle.greedy.specs.Turn.{uncolored}
-use Rattle.greedy.proofs.UncoloredLaws.{last-colored, last-uncolored, uncolored-member}
+use Rattle.greedy.proofs.TurnLaws.{last-colored, last-uncolored, uncolored-member}
 use Rattle.greedy.specs.Saturation.{greater, greatest}
 use Rattle.graph.specs.declared.NodeIndex.{NodeIndex}
 use Rattle.saturation.specs.declared.turns.Choice.the-variants.{Next, Nothing}

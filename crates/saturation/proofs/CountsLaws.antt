@@ -8,12 +8,11 @@ use lib.ListN.{length, set, length-map}
 use borrow.Author.Tests.{eq-eqb}
 use Rattle.lists.proofs.Tests.{by-test, dec-eq}
 use Rattle.lists.specs.Member.{Mem}
-use Rattle.lists.proofs.MemberLaws.{dec-mem, mem-map, map-mem, pigeonhole}
+use Rattle.lists.proofs.MemberLaws.{dec-mem, mem-map, map-mem, pigeonhole, distinct-nodup, distinct-member, different-same, different-new, count-here, count-there, count-none}
 use Rattle.lists.specs.Different.{different, distinct, count}
-use Rattle.lists.proofs.DifferentLaws.{distinct-nodup, distinct-member, different-same, different-new, count-here, count-there, count-none}
 use Rattle.graph.specs.Color.{noColor}
 use Rattle.graph.specs.Colored.{colorOf, isColored, coloredAmong}
-use Rattle.graph.proofs.ColoredLaws.{color-set-same, color-set-other, is-colored-true, is-colored-false, colored-true, uncolored-false, colored-edge, edge-colored, colored-edges-length}
+use Rattle.graph.proofs.ColorLaws.{color-set-same, color-set-other, is-colored-true, is-colored-false, colored-true, uncolored-false, colored-edge, edge-colored, colored-edges-length}
 use Rattle.greedy.specs.Saturation.{uncoloredAmong}
 
 -- ---- how often

@@ -15,18 +15,15 @@ use Rattle.graph.proofs.EdgeLaws.{at-edge, edge-at}
 use Rattle.graph.specs.Stretch.{stretch}
 use Rattle.graph.specs.Color.{noColor}
 use Rattle.graph.specs.Colored.{colorOf}
-use Rattle.graph.proofs.ColoredLaws.{color-read, color-outside}
+use Rattle.graph.proofs.ColorLaws.{color-read, color-outside}
 use Rattle.items.specs.declared.Kind.{Kind}
 use Rattle.items.specs.Items.{firstNode, secondNode, acrossOf, neighborsOf, Sized, Tabled}
 use Rattle.items.proofs.ItemsLaws.{items-few, across-inside, first-inside, second-inside, NodeOf, neighbor-leading, leading-neighbor}
-use Rattle.color_marks.proofs.StandingLaws.{stands-item, item-stands}
+use Rattle.color_marks.proofs.MarksLaws.{stands-item, item-stands, stored-here, bare-mark, used-yes, used-no}
 use Rattle.color_marks.specs.Stored.{stored}
-use Rattle.color_marks.proofs.StoredLaws.{stored-here}
 use Rattle.color_marks.specs.Around.{around}
 use Rattle.color_marks.specs.Marks.{stands, markOf}
-use Rattle.color_marks.proofs.MarksLaws.{bare-mark}
 use Rattle.color_marks.specs.Used.{usedMarks}
-use Rattle.color_marks.proofs.UsedLaws.{used-yes, used-no}
 use Rattle.saturation.proofs.CountsLaws.{colorsAmong, color-among, among-color}
 
 -- An item among us that has no colour is marked if the colour stands on its neighbours.

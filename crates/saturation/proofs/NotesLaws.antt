@@ -6,17 +6,16 @@ use mathlib.Core.List.{List, [], _∷_, _++_, map}
 use native.Mathlib.Omega.{arith}
 use lib.ListN.{length, getD, take, drop, set, take-append-drop}
 use lib.Seq.{drop-cons, take-length, getD-set-same, getD-set-other}
-use Rattle.lists.proofs.MemberLaws.{map-append}
+use Rattle.lists.proofs.MemberLaws.{map-append, count-append, count-here, count-there, count-none}
 use Rattle.lists.proofs.Tests.{dec-eq}
 use Rattle.lists.specs.Different.{count}
-use Rattle.lists.proofs.DifferentLaws.{count-append, count-here, count-there, count-none}
 use Rattle.graph.specs.Color.{noColor}
 use Rattle.graph.specs.Colored.{colorOf}
-use Rattle.graph.proofs.ColoredLaws.{color-read}
+use Rattle.graph.proofs.ColorLaws.{color-read}
 use Rattle.items.specs.declared.Kind.{Kind}
 use Rattle.items.specs.Items.{acrossOf}
 use Rattle.color_marks.specs.Around.{acrossAll}
-use Rattle.color_marks.proofs.AroundLaws.{across-more}
+use Rattle.color_marks.proofs.MarksLaws.{across-more}
 use Rattle.saturation.specs.Notes.{NotedTimes, Noted, Room}
 
 pub none-noted : (s w m : ℕ) → NotedTimes 0 s w m s w m

@@ -10,10 +10,10 @@ use lib.ListN.{length, getD, set, replicate, getD-replicate, length-replicate, L
 use lib.Seq.{getD-set-same, getD-set-other, ext-getD}
 use Rattle.lists.proofs.Tests.{dec-eq}
 use Rattle.lists.specs.Different.{different}
-use Rattle.lists.proofs.DifferentLaws.{different-none}
+use Rattle.lists.proofs.MemberLaws.{different-none}
 use Rattle.graph.specs.Color.{noColor}
 use Rattle.graph.specs.Colored.{colorOf, coloredAmong}
-use Rattle.graph.proofs.ColoredLaws.{color-outside, color-read, color-set-same, color-set-other, uncolored-false}
+use Rattle.graph.proofs.ColorLaws.{color-outside, color-read, color-set-same, color-set-other, uncolored-false}
 use Rattle.greedy.specs.Saturation.{uncoloredAmong}
 use Rattle.items.specs.declared.Kind.{Kind}
 use Rattle.items.specs.Items.{neighborsOf, Tabled}

@@ -9,10 +9,10 @@ use lib.Seq.{set-getD, getD-set-same, getD-set-other}
 use Rattle.lists.proofs.Tests.{by-test, dec-eq}
 use Rattle.lists.specs.Member.{Mem}
 use Rattle.lists.specs.Different.{different, count}
-use Rattle.lists.proofs.DifferentLaws.{count-none}
+use Rattle.lists.proofs.MemberLaws.{count-none}
 use Rattle.graph.specs.Color.{noColor}
 use Rattle.graph.specs.Colored.{colorOf, isColored}
-use Rattle.graph.proofs.ColoredLaws.{color-read, color-set-same, color-set-other, uncolored-false}
+use Rattle.graph.proofs.ColorLaws.{color-read, color-set-same, color-set-other, uncolored-false}
 use Rattle.greedy.specs.Greedy.{Neighborhood}
 use Rattle.greedy.specs.Saturation.{saturation, uncoloredNeighbors, uncoloredAmong}
 use Rattle.items.specs.declared.Kind.{Kind}

@@ -15,7 +15,7 @@ use Rattle.lists.proofs.Tests.{by-test, dec-eq, true-or}
 use Rattle.graph.specs.Check.{Passed}
 use Rattle.graph.specs.Edges.{firstEnd, secondEnd}
 use Rattle.two_color.specs.declared.components.Root.{Root}
-use Rattle.two_color.proofs.OddLaws.{false-xor, xor-false}
+use Rattle.two_color.proofs.WalkLaws.{false-xor, xor-false}
 use Rattle.two_color.specs.Sides.{lower, givesWay, lowest, oddSide, oddCycle, sideColor, sides}
 use Rattle.two_color.proofs.SideLaws.{lowest-next, odd-more, cycle-more, length-sides, sides-at}
 use Rattle.two_color.specs.Components.{Forest, Hangs, Holds, Joined, Found, Finds, Climbs, Taken, Joins, Sided}

@@ -2,6 +2,4 @@
 pub mod SideLaws
 pub mod TwoColorLaws
 pub mod ComponentsLaws
-pub mod OddLaws
 pub mod WalkLaws
-pub mod OneBipartition

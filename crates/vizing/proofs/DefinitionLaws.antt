@@ -12,7 +12,7 @@ use borrow.Author.Tests.{eqb-true, eqb-false, not-true}
 use Rattle.lists.proofs.Tests.{by-test, and-true, true-and}
 use Rattle.lists.specs.Member.{Mem, elem}
 use Rattle.lists.proofs.MemberLaws.{elem-false, not-mem-elem}
-use Rattle.graph.proofs.ColoredLaws.{NoneHas, color-set-other, is-colored-true, colored-true}
+use Rattle.graph.proofs.ColorLaws.{NoneHas, color-set-other, is-colored-true, colored-true}
 use Rattle.graph.specs.Color.{noColor}
 use Rattle.graph.specs.Colored.{colorOf, isColored}
 use Rattle.vizing.specs.MisraGries.{edgeOfColor, isFree, store, joins, firstJoining}

@@ -16,7 +16,7 @@ use Rattle.graph.proofs.EdgeLaws.{edge-at, at-edge}
 use Rattle.graph.specs.Colored.{colorOf}
 use Rattle.vizing.specs.MisraGries.{isFree, firstJoining}
 use Rattle.vizing.proofs.StepForm.{growFan, lastFarEnd, placesTo}
-use Rattle.graph.proofs.ColoredLaws.{NoneHas}
+use Rattle.graph.proofs.ColorLaws.{NoneHas}
 use Rattle.vizing.proofs.DefinitionLaws.{some-or-none, is-free-true, is-free-false, first-joining-some, first-joining-none}
 use Rattle.vizing.specs.Simple.{Incident}
 use mathlib.Core.Bool.{cond}

@@ -15,7 +15,7 @@ use Rattle.graph.specs.Color.{noColor, smallestFree}
 use Rattle.graph.specs.Colored.{colorOf, isColored, coloredAmong, smallestFreeAt}
 use Rattle.vizing.specs.MisraGries.{edgeOfColor, isFree, store, firstJoining, path, swap, exchange, step, stepHeld, heldAfter, isNone, joins, Held, held}
 use Rattle.vizing.proofs.StepForm.{growFan, lastFarEnd, placesTo, rotatePlaces, stepParts, step-form}
-use Rattle.graph.proofs.ColoredLaws.{colored-inside, color-replicate, colored-edge, smallest-free-colored, is-colored-true, is-colored-false, colored-edges-append, colored-edges-keep}
+use Rattle.graph.proofs.ColorLaws.{colored-inside, color-replicate, colored-edge, smallest-free-colored, is-colored-true, is-colored-false, colored-edges-append, colored-edges-keep}
 use Rattle.vizing.proofs.DefinitionLaws.{some-or-none, edge-of-color-some, first-joining-some, length-store, color-store-other, false-joins}
 use lib.Seq.{getD-take, length-take-le}
 use lib.Dec.{eqb}

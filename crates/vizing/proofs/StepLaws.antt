@@ -7,7 +7,7 @@ use Rattle.graph.specs.Edges.{edgesAt, degree, firstEnd, secondEnd, farEnd}
 use Rattle.graph.proofs.EdgeLaws.{at-edge, far-first}
 use Rattle.graph.specs.Color.{noColor}
 use Rattle.graph.specs.Colored.{colorOf, smallestFreeAt}
-use Rattle.graph.proofs.ColoredLaws.{smallest-free-bound, smallest-none-has, color-set-same, color-set-other, color-replicate}
+use Rattle.graph.proofs.ColorLaws.{smallest-free-bound, smallest-none-has, color-set-same, color-set-other, color-replicate}
 use Rattle.vizing.specs.Coloring.{Free}
 use Rattle.vizing.specs.Simple.{Incident, Simple}
 use mathlib.Core.Path.{_≡_, refl, sym, subst, _∙_, ap}
@@ -20,7 +20,7 @@ use Rattle.vizing.proofs.StepForm.{rotatePlaces, growFan, lastFarEnd, p
 use Rattle.vizing.proofs.DefinitionLaws.{length-store, color-store-other}
 use Rattle.vizing.proofs.Fan.{Moved, Rotated, lastEdge, last-member, UpTo, fan-edge, fan-at, up-to-free, up-to-member, up-to-nodup, fan-up-to, some-free, Grown, grown-fan, fan-nodup, grown-maximal, fan-grown, places-up-to, last-far-end, fan-length, rotated-other, rotated-from, rotation-proper}
 use native.Mathlib.Decide.{decLt}
-use Rattle.graph.proofs.CountLaws.{degree-bound}
+use Rattle.graph.proofs.TableLaws.{degree-bound}
 use Rattle.vizing.proofs.AlternatingPath.{Graph, swap-cases, Alternating, path-edge, Exchanged, exchange-proper, exchange-uncolored, free-d, path-alternating, alternating-nodup, alternating-length}
 use Rattle.vizing.proofs.SimpleLaws.{simple-graph}
 use Rattle.vizing.specs.Step.{Invariant}

@@ -8,7 +8,7 @@ use native.Mathlib.Nat.{not-suc-le-zero}
 use native.Mathlib.Decide.{decLt}
 use Rattle.lists.proofs.Tests.{dec-eq}
 use Rattle.graph.specs.Edges.{degree, edgeCount, firstEnd, secondEnd, edgesAt}
-use Rattle.graph.proofs.CountLaws.{degree-bound}
+use Rattle.graph.proofs.TableLaws.{degree-bound}
 use Rattle.vizing.specs.Demand3.{maxDegree, Admitted, Accurate, FirstEdgesAlone, Demand3}
 use mathlib.Core.Bool.{not}
 use mathlib.Core.Option.{none}
@@ -27,7 +27,7 @@ use Rattle.graph.proofs.EdgeLaws.{at-edge}
 use Rattle.graph.specs.Report.{Accepted}
 use Rattle.graph.specs.Color.{daysOf, colored}
 use Rattle.graph.specs.Colored.{colorOf, smallestFreeAt}
-use Rattle.graph.proofs.ColoredLaws.{color-read, color-take, smallest-free-bound, smallest-none-has}
+use Rattle.graph.proofs.ColorLaws.{color-read, color-take, smallest-free-bound, smallest-none-has}
 use Rattle.vizing.proofs.StepLaws.{degree-palette, run-keeps}
 use Rattle.vizing.specs.Step.{Invariant}
 

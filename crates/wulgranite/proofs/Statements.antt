@@ -1,6 +1,6 @@
 -- What specs/ only states is proved: if one of these proofs were gone, this file would say so.
 use Rattle.two_color.specs.TwoColor.{OneBipartition}
-use Rattle.two_color.proofs.OneBipartition.{one-bipartition}
+use Rattle.two_color.proofs.TwoColorLaws.{one-bipartition}
 use Rattle.vizing.specs.Clause.{ClauseIsClaim}
 use Rattle.vizing.proofs.ClauseLaws.{clause-is-claim, wrong-calls-fall}
 use Rattle.vizing.specs.WrongCalls.{WrongCallsFall}

@@ -5,7 +5,7 @@ use mathlib.Core.Path.{_≡_}
 use lib.ListN.{length, drop}
 use borrow.Author.Needs.{needs}
 use Rattle.lists.specs.Member.{elem}
-use Rattle.color_marks.proofs.UsedLaws.{used-here, used-next, used-none}
+use Rattle.color_marks.proofs.MarksLaws.{used-here, used-next, used-none}
 use Rattle.color_marks.proofs.has_color.Statement.{statement}
 use Rattle.color_marks.proofs.has_color.Tie as tie
 

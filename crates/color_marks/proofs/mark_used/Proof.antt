@@ -1,6 +1,6 @@
 -- `mark_used` meets its contract: some item has the colour, and the marks are set, or none has it.
 use borrow.Author.Needs.{needs}
-use Rattle.color_marks.proofs.UsedLaws.{used-marked, unused-kept}
+use Rattle.color_marks.proofs.MarksLaws.{used-marked, unused-kept}
 use Rattle.color_marks.proofs.mark_used.Statement.{statement}
 use Rattle.color_marks.proofs.mark_used.Tie as tie
 

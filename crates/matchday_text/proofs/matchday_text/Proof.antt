@@ -6,7 +6,7 @@ use lib.Seq.{length-take-le}
 use borrow.Author.Needs.{needs}
 use Rattle.lists.specs.Search.{allBelow}
 use Rattle.lists.proofs.SearchLaws.{below-all}
-use Rattle.matchday_text.proofs.FileText.{unread-room, unread-text, read-edges, read-text}
+use Rattle.matchday_text.proofs.CallLaws.{unread-room, unread-text, read-edges, read-text}
 use Rattle.matchday_text.proofs.matchday_text.Statement.{statement}
 use Rattle.matchday_text.proofs.matchday_text.Tie as tie
 

@@ -3,7 +3,7 @@ use mathlib.Core.Path.{sym}
 use native.Mathlib.Omega.{arith}
 use lib.Seq.{length-take-le}
 use borrow.Author.Needs.{needs}
-use Rattle.matchday_text.proofs.FileText.{text-fits}
+use Rattle.matchday_text.proofs.CallLaws.{text-fits}
 use Rattle.matchdays.proofs.main.Statement.{statement}
 use Rattle.matchdays.proofs.main.Tie as tie
 

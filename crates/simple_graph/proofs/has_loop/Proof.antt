@@ -6,7 +6,7 @@ use mathlib.Core.Bool.{false}
 use native.Mathlib.Omega.{arith}
 use borrow.Author.Needs.{needs}
 use Rattle.vizing.specs.MisraGries.{hasLoop}
-use Rattle.simple_graph.proofs.Loops.{no-edge, loop-found, no-loop-more, no-loop-all}
+use Rattle.simple_graph.proofs.SimpleLaws.{no-edge, loop-found, no-loop-more, no-loop-all}
 use Rattle.simple_graph.proofs.has_loop.Statement.{statement}
 use Rattle.simple_graph.proofs.has_loop.Tie as tie
 

@@ -1,7 +1,7 @@
 -- `color_of` meets its contract.
 use mathlib.Core.Path.{sym}
 use borrow.Author.Needs.{needs}
-use Rattle.graph.proofs.ColoredLaws.{color-read, color-outside}
+use Rattle.graph.proofs.ColorLaws.{color-read, color-outside}
 use Rattle.smallest_color.proofs.color_of.Statement.{statement}
 use Rattle.smallest_color.proofs.color_of.Tie as tie
 

@@ -8,7 +8,7 @@ use lib.ListN.{length, take}
 use borrow.Author.Needs.{needs}
 use Rattle.smallest_color.specs.Marks.{Marked}
 use Rattle.smallest_color.specs.EdgeMarks.{colorsOf}
-use Rattle.smallest_color.proofs.EdgeMarksLaws.{edges-marked-begin, edges-marked-next, edges-marked-end}
+use Rattle.smallest_color.proofs.MarksLaws.{edges-marked-begin, edges-marked-next, edges-marked-end}
 use Rattle.smallest_color.proofs.mark_colors.Statement.{statement}
 use Rattle.smallest_color.proofs.mark_colors.Tie as tie
 

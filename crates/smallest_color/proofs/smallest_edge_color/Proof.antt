@@ -2,8 +2,7 @@
 use mathlib.Core.List.{[]}
 use mathlib.Core.Path.{_∙_}
 use borrow.Author.Needs.{needs}
-use Rattle.smallest_color.proofs.MarksLaws.{marked-none}
-use Rattle.smallest_color.proofs.EdgeMarksLaws.{smallest-edge-found}
+use Rattle.smallest_color.proofs.MarksLaws.{marked-none, smallest-edge-found}
 use Rattle.smallest_color.proofs.smallest_edge_color.Statement.{statement}
 use Rattle.smallest_color.proofs.smallest_edge_color.Tie as tie
 

@@ -1,7 +1,7 @@
 -- `color_of` meets its contract: beyond the list there is no colour.
 use mathlib.Core.Path.{sym, _∙_}
 use borrow.Author.Needs.{needs}
-use Rattle.graph.proofs.ColoredLaws.{color-read, color-outside}
+use Rattle.graph.proofs.ColorLaws.{color-read, color-outside}
 use Rattle.edge_table.proofs.update.color_of.Statement.{statement}
 use Rattle.edge_table.proofs.update.color_of.Tie as tie
 

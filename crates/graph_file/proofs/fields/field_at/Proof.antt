@@ -1,7 +1,7 @@
 -- `field_at` meets its contract: one law for each answer.
 use native.Mathlib.Omega.{arith}
 use borrow.Author.Needs.{needs}
-use Rattle.graph_file.proofs.ReadLaws.{header-truncated, field-truncated, field-found}
+use Rattle.graph_file.proofs.CallLaws.{header-truncated, field-truncated, field-found}
 use Rattle.graph_file.proofs.fields.field_at.Statement.{statement}
 use Rattle.graph_file.proofs.fields.field_at.Tie as tie
 

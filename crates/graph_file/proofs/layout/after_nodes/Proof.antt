@@ -1,7 +1,7 @@
 -- `after_nodes` meets its contract: one law for each answer.
 use native.Mathlib.Omega.{arith}
 use borrow.Author.Needs.{needs}
-use Rattle.graph_file.proofs.ReadLaws.{ends-truncated, ends-tag, ends-length, ends-more, ends-last}
+use Rattle.graph_file.proofs.CallLaws.{ends-truncated, ends-tag, ends-length, ends-more, ends-last}
 use Rattle.graph_file.proofs.layout.after_nodes.Statement.{statement}
 use Rattle.graph_file.proofs.layout.after_nodes.Tie as tie
 

@@ -1,7 +1,7 @@
 -- `layout_of` meets its contract: one law for each answer.
 use native.Mathlib.Omega.{arith}
 use borrow.Author.Needs.{needs}
-use Rattle.graph_file.proofs.ReadLaws.{file-long, file-truncated, nodes-tag, nodes-length, nodes-read}
+use Rattle.graph_file.proofs.CallLaws.{file-long, file-truncated, nodes-tag, nodes-length, nodes-read}
 use Rattle.graph_file.proofs.layout.layout_of.Statement.{statement}
 use Rattle.graph_file.proofs.layout.layout_of.Tie as tie
 

@@ -7,7 +7,7 @@ use lib.ListN.{length, take, drop, length-set}
 use native.Mathlib.Omega.{arith}
 use borrow.Author.Needs.{needs}
 use Rattle.graph_file.specs.File.{numbers}
-use Rattle.graph_file.proofs.NumberLaws.{length-numbers, number-copied, all-copied}
+use Rattle.graph_file.proofs.LayoutLaws.{length-numbers, number-copied, all-copied}
 use Rattle.graph_file.proofs.numbers.copy_numbers.Statement.{statement}
 use Rattle.graph_file.proofs.numbers.copy_numbers.Tie as tie
 

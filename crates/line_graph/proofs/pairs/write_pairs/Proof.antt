@@ -5,9 +5,8 @@ use mathlib.Core.Path.{_≡_, refl, _∙_}
 use native.Mathlib.Omega.{arith}
 use lib.ListN.{length}
 use borrow.Author.Needs.{needs}
-use Rattle.line_graph.proofs.PlacedLaws.{Writing}
+use Rattle.line_graph.proofs.WrittenPairsLaws.{Writing, below-start, below-room, below-next, below-end}
 use Rattle.line_graph.specs.WrittenPairs.{pairsBelow}
-use Rattle.line_graph.proofs.WrittenPairsLaws.{below-start, below-room, below-next, below-end}
 use Rattle.line_graph.proofs.pairs.write_pairs.Statement.{statement}
 use Rattle.line_graph.proofs.pairs.write_pairs.Tie as tie
 

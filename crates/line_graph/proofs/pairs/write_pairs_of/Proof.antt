@@ -5,8 +5,7 @@ use mathlib.Core.Path.{_≡_, refl, _∙_}
 use native.Mathlib.Omega.{arith}
 use lib.ListN.{length}
 use borrow.Author.Needs.{needs}
-use Rattle.line_graph.proofs.PlacedLaws.{Writing}
-use Rattle.line_graph.proofs.WrittenPairsLaws.{pairsBefore, of-start, of-room, of-next, of-end}
+use Rattle.line_graph.proofs.WrittenPairsLaws.{Writing, pairsBefore, of-start, of-room, of-next, of-end}
 use Rattle.line_graph.proofs.pairs.write_pairs_of.Statement.{statement}
 use Rattle.line_graph.proofs.pairs.write_pairs_of.Tie as tie
 

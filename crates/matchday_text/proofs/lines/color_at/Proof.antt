@@ -2,7 +2,7 @@
 use mathlib.Core.Path.{sym}
 use native.Mathlib.Omega.{arith}
 use borrow.Author.Needs.{needs}
-use Rattle.graph.proofs.ColoredLaws.{color-read, color-outside}
+use Rattle.graph.proofs.ColorLaws.{color-read, color-outside}
 use Rattle.matchday_text.proofs.lines.color_at.Statement.{statement}
 use Rattle.matchday_text.proofs.lines.color_at.Tie as tie
 
