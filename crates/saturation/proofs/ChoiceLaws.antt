@@ -1,9 +1,9 @@
--- Laws of what specs/Choice defines.
-use Prim.Native.Nat.{ℕ, zero, suc, _+_, _≤_, _<_}
+-- The item that is chosen by the counts is the one that the definition chooses.
+use Prim.Native.Nat.{ℕ, zero, suc, _≤_, _<_}
 use mathlib.Core.Path.{_≡_, refl, sym, ap, subst, _∙_}
-use mathlib.Core.Logic.{_⊎_, inl, inr, _≢_}
+use mathlib.Core.Logic.{inl, inr, _≢_}
 use mathlib.Core.List.{List, [], _∷_, _++_, append-nil}
-use mathlib.Core.Bool.{Bool, true, false, cond}
+use mathlib.Core.Bool.{Bool, true, false, _&&_, _||_, cond}
 use native.Mathlib.Omega.{arith}
 use native.Mathlib.Nat.{not-suc-le-zero}
 use lib.ListN.{length, getD}
@@ -13,50 +13,39 @@ use Rattle.lists.proofs.Tests.{by-test, dec-eq, and-false, true-or}
 use Rattle.lists.specs.Member.{Mem}
 use Rattle.graph.specs.Color.{noColor}
 use Rattle.graph.specs.Colored.{colorOf}
-use Rattle.graph.proofs.ColoredLaws.{color-read}
 use Rattle.greedy.specs.Turn.{uncolored}
 use Rattle.greedy.proofs.UncoloredLaws.{last-colored, last-uncolored, uncolored-member}
 use Rattle.greedy.specs.Saturation.{greater, greatest}
 use Rattle.graph.specs.declared.NodeIndex.{NodeIndex}
-use Rattle.saturation.specs.declared.turns.Choice.the-variants.{Next, Nothing}
-use Rattle.saturation.specs.Counts.{Counted, Cleared}
-use Rattle.saturation.specs.Choice.{Greatest, All, With, leads, leader, Leads, Chosen}
-
--- ---- the greatest counts
-
-module _ (taken : ℕ → Type 0) (counts : List ℕ) where
-  pub greatest-none : Greatest taken counts 0 0
-  greatest-none = record { bound = λ v h t. absurd (not-suc-le-zero h); reached = λ z. absurd (z refl) }
-
-  module _ (n best : ℕ) (g : Greatest taken counts n best) where
-    pub greatest-same : (taken n → getD counts n 0 ≤ best) → Greatest taken counts (n + 1) best
-    greatest-same low = record {
-      bound = λ v h t. elim (dec-eq v n) [ inl e ↦ rw e (low (rw e at t)) | inr e ↦ g .bound v (omega arith) t ];
-      reached = λ z. let r = g .reached z in (r .0, omega (arith, r .1), r .2, r .3);
-    }
-
-    pub greatest-more : taken n → best < getD counts n 0 → Greatest taken counts (n + 1) (getD counts n 0)
-    greatest-more here more = record {
-      bound = λ v h t. elim (dec-eq v n) [ inl e ↦ rw e (omega arith) | inr e ↦ omega (arith, g .bound v (omega arith) t) ];
-      reached = λ z. (n, omega arith, here, refl);
-    }
-
-    pub greatest-all : (k : ℕ) → n ≤ k → k ≤ n → Greatest taken counts k best
-    greatest-all k h l = let e : n ≡ k = omega arith in subst (λ (x : ℕ). Greatest taken counts x best) e g
-
--- The items with this saturation, as the code counts: 0 of any other.
-module _ (saturations waiting : List ℕ) (saturation v best count : ℕ) (g : Greatest (With saturations saturation) waiting v best)
-    (told : (getD saturations v 0 ≡ saturation → count ≡ getD waiting v 0) × ((getD saturations v 0 ≡ saturation → ⊥) → count ≡ 0)) where
-  pub among-more : best < count → Greatest (With saturations saturation) waiting (v + 1) count
-  among-more h = elim (dec-eq (getD saturations v 0) saturation) [
-    | inl e ↦ rw (told .0 e) (greatest-more (With saturations saturation) waiting v best g e (omega (arith, told .0 e)))
-    | inr n ↦ absurd (omega (arith, told .1 n))
-  ]
-
-  pub among-same : count ≤ best → Greatest (With saturations saturation) waiting (v + 1) best
-  among-same h = greatest-same (With saturations saturation) waiting v best g (λ e. omega (arith, told .0 e))
+use Rattle.choice.specs.declared.Choice.{Choice}
+use Rattle.choice.specs.declared.Choice.the-variants.{Next, Nothing}
+use Rattle.choice.specs.Choice.{optionOf, choiceOf}
+use Rattle.choice.proofs.ChoiceLaws.{Best, some-best, none-bare}
+use Rattle.items.specs.declared.Kind.{Kind}
+use Rattle.items.proofs.ItemsLaws.{items-few}
+use Rattle.saturation.specs.Counts.{Counted}
+use Rattle.saturation.specs.Taken.{Ready}
 
 -- ---- who leads
+
+module _ (saturations waiting : List ℕ) where
+  -- `greater`, by the counts.
+  unfoldable pub leads : ℕ → ℕ → Bool
+  leads u v = ltb (getD saturations v 0) (getD saturations u 0) || (eqb (getD saturations v 0) (getD saturations u 0) && ltb (getD waiting v 0) (getD waiting u 0))
+
+  -- `greatest`, by the counts.
+  unfoldable pub leader : ℕ → List ℕ → ℕ
+  leader v [] = v
+  leader v (u ∷ us) = leader (cond (leads u v) u v) us
+
+  -- The leader of the items below k that have no colour.
+  pub record Leads (colors : List ℕ) (k best : ℕ) : Type 0 where
+    pub inside : best < k
+    pub bare : colorOf colors best ≡ noColor
+    pub first : ℕ
+    pub rest : List ℕ
+    pub candidates : uncolored colors k ≡ first ∷ rest
+    pub best-is : best ≡ leader first rest
 
 module _ (saturations waiting : List ℕ) where
   leader-last : (v : ℕ) (us : List ℕ) (x : ℕ) → leader saturations waiting v (us ++ x ∷ []) ≡ cond (leads saturations waiting x (leader saturations waiting v us)) x (leader saturations waiting v us)
@@ -109,79 +98,45 @@ module _ (saturations waiting : List ℕ) where
       | inr d ↦ lead-more n (lead-all n (omega arith) (λ u b. none u (omega arith))) (none n (omega arith))
     ]
 
--- ---- the scan
+-- ---- the answer
 
--- No item below k has no colour and these counts.
-pub record NoneBelow (colors saturations waiting : List ℕ) (most longest k : ℕ) : Type 0 where
-  pub none : (u : ℕ) → u < k → colorOf colors u ≡ noColor → getD saturations u 0 ≡ most → getD waiting u 0 ≡ longest → ⊥
+-- The answer of the scan over all items.
+pub record Chosen (colors saturations waiting : List ℕ) (choice : Choice) : Type 0 where
+  pub nothing : choice ≡ Nothing → uncolored colors (length colors) ≡ []
+  pub next : (v : NodeIndex) → choice ≡ Next v → Leads saturations waiting colors (length colors) (v .0)
 
 none-uncolored : (colors : List ℕ) (k : ℕ) → ((u : ℕ) → u < k → colorOf colors u ≢ noColor) → uncolored colors k ≡ []
 unfolding uncolored
 none-uncolored colors zero all = refl
 none-uncolored colors (suc k) all = last-colored colors k (all k (omega arith)) ∙ (append-nil (uncolored colors k) ∙ none-uncolored colors k (λ u h. all u (omega arith)))
 
-module _ (colors saturations waiting : List ℕ) (most longest : ℕ) where
-  pub none-begin : NoneBelow colors saturations waiting most longest 0
-  none-begin = record { none = λ u h e p q. not-suc-le-zero h }
+-- The best item by the counts leads all.
+best-leads : (colors saturations waiting : List ℕ) (k : ℕ) → Best colors saturations waiting k → Leads saturations waiting colors (length colors) k
+unfolding leads
+best-leads colors saturations waiting k b = lead-all saturations waiting colors k (b .bare) lower (length colors) (b .inside) none
+  where
+    lower : (u : ℕ) → u < k → colorOf colors u ≡ noColor → leads saturations waiting k u ≡ true
+    lower u h bare = elim (dec-eq (getD saturations u 0) (getD saturations k 0)) [
+      | inl z ↦ rw (eq-eqb (getD saturations u 0) (getD saturations k 0) z, lt-ltb (getD waiting u 0) (getD waiting k 0) (b .lowest u h bare z)) (true-or (ltb (getD saturations u 0) (getD saturations k 0)) true refl)
+      | inr z ↦ rw (lt-ltb (getD saturations u 0) (getD saturations k 0) (omega (arith, b .most u (omega (arith, b .inside)), z)))
+    ]
 
-  module _ (k : ℕ) (before : NoneBelow colors saturations waiting most longest k) (inside : k < length colors) where
-    none-next : (colorOf colors k ≡ noColor → getD saturations k 0 ≡ most → getD waiting k 0 ≡ longest → ⊥) → NoneBelow colors saturations waiting most longest (k + 1)
-    none-next n = record { none = λ u h e p q. elim (dec-eq u k) [ inl z ↦ n (rw z at e) (rw z at p) (rw z at q) | inr z ↦ before .none u (omega arith) e p q ] }
+    none : (u : ℕ) → u < length colors → colorOf colors u ≡ noColor → leads saturations waiting u k ≡ false
+    none u h bare = elim (dec-eq (getD saturations u 0) (getD saturations k 0)) [
+      | inl z ↦ rw (le-ltb (getD saturations k 0) (getD saturations u 0) (omega arith), le-ltb (getD waiting k 0) (getD waiting u 0) (b .longest u h z)) (and-false (eqb (getD saturations k 0) (getD saturations u 0)) false refl)
+      | inr z ↦ rw (le-ltb (getD saturations k 0) (getD saturations u 0) (b .most u h), ne-eqb (getD saturations k 0) (getD saturations u 0) (λ y. z (sym y)))
+    ]
 
-    pub none-saturated : (getD saturations k 0 ≡ most → ⊥) → NoneBelow colors saturations waiting most longest (k + 1)
-    none-saturated n = none-next (λ e p q. n p)
-
-    pub none-waiting : (getD waiting k 0 ≡ longest → ⊥) → NoneBelow colors saturations waiting most longest (k + 1)
-    none-waiting n = none-next (λ e p q. n q)
-
-    pub none-colored : (getD colors k 0 ≡ noColor → ⊥) → NoneBelow colors saturations waiting most longest (k + 1)
-    none-colored n = none-next (λ e p q. n (color-read colors k 0 inside ∙ e))
-
-  module _ (first : Greatest All saturations (length colors) most) (second : Greatest (With saturations most) waiting (length colors) longest) where
-    -- The first item without a colour that has both counts leads all.
-    pub chosen-next : (k : ℕ) → NoneBelow colors saturations waiting most longest k → k < length colors → getD saturations k 0 ≡ most → getD waiting k 0 ≡ longest → getD colors k 0 ≡ noColor
-        → Chosen colors saturations waiting (Next (record { 0 = k }))
-    unfolding leads
-    chosen-next k before inside p q e =
-        let bare = sym (color-read colors k 0 inside) ∙ e in
-        let lower : (u : ℕ) → u < k → colorOf colors u ≡ noColor → leads saturations waiting k u ≡ true = λ u h b.
-        elim (dec-eq (getD saturations u 0) most) [
-          | inl z ↦ rw (eq-eqb (getD saturations u 0) (getD saturations k 0) (z ∙ sym p), lt-ltb (getD waiting u 0) (getD waiting k 0) (under u h b z)) (true-or (ltb (getD saturations u 0) (getD saturations k 0)) true refl)
-          | inr z ↦ rw (lt-ltb (getD saturations u 0) (getD saturations k 0) (omega (arith, first .bound u (omega arith) tt, p, z)))
-        ] in
-        let none : (u : ℕ) → u < length colors → colorOf colors u ≡ noColor → leads saturations waiting u k ≡ false = λ u h b.
-        elim (dec-eq (getD saturations u 0) most) [
-          | inl z ↦ rw (le-ltb (getD saturations k 0) (getD saturations u 0) (omega arith), le-ltb (getD waiting k 0) (getD waiting u 0) (omega (arith, second .bound u h z, q))) (and-false (eqb (getD saturations k 0) (getD saturations u 0)) false refl)
-          | inr z ↦ rw (le-ltb (getD saturations k 0) (getD saturations u 0) (omega (arith, first .bound u h tt, p)), ne-eqb (getD saturations k 0) (getD saturations u 0) (λ y. z (sym y ∙ p)))
-        ] in
-        let l = lead-all saturations waiting colors k bare lower (length colors) inside none in
-        record {
-          nothing = λ z. let y : _≡_ {A = ℕ} 0 1 = cc in absurd (omega arith);
-          next = λ v z. let i : record { 0 = k } ≡ v = cc in subst (λ (x : ℕ). Leads saturations waiting colors (length colors) x) (ap (λ (x : NodeIndex). x .0) i) l;
-        }
-      where
-        under : (u : ℕ) → u < k → colorOf colors u ≡ noColor → getD saturations u 0 ≡ most → getD waiting u 0 < getD waiting k 0
-        under u h b z = elim (dec-eq (getD waiting u 0) longest) [ inl y ↦ absurd (before .none u h b z y) | inr y ↦ omega (arith, second .bound u (omega arith) z, q, y) ]
-
-    -- Without such an item each has a colour: an item without one that has the greatest first count would have the greatest second.
-    pub chosen-nothing : Cleared colors saturations waiting → (k : ℕ) → NoneBelow colors saturations waiting most longest k → length colors ≤ k → Chosen colors saturations waiting Nothing
-    chosen-nothing cleared k below end = record {
-      nothing = λ _. none-uncolored colors (length colors) (λ u h bare. impossible u h bare);
-      next = λ v z. let y : _≡_ {A = ℕ} 0 1 = cc in absurd (omega arith);
-    }
-      where
-        -- An item with a count other than 0 has no colour.
-        counted : (x : ℕ) → (getD saturations x 0 ≢ 0) ⊎ (getD waiting x 0 ≢ 0) → colorOf colors x ≡ noColor
-        counted x n = elim (dec-eq (colorOf colors x) noColor) [ inl e ↦ e | inr d ↦ let r = cleared .counts x d in elim n [ inl z ↦ absurd (z (r .0)) | inr z ↦ absurd (z (r .1)) ] ]
-
-        impossible : (u : ℕ) → u < length colors → colorOf colors u ≡ noColor → ⊥
-        impossible u h bare = elim (dec-eq longest 0) [
-          | inr y ↦ let r = second .reached y in below .none (r .0) (omega (arith, r .1)) (counted (r .0) (inr (λ z. y (sym (r .3) ∙ z)))) (r .2) (r .3)
-          | inl y ↦ elim (dec-eq most 0) [
-            | inr x ↦ let r = first .reached x in below .none (r .0) (omega (arith, r .1)) (counted (r .0) (inl (λ z. x (sym (r .3) ∙ z)))) (r .3) (omega (arith, second .bound (r .0) (r .1) (r .3)))
-            | inl x ↦ let e : getD saturations u 0 ≡ most = omega (arith, first .bound u h tt) in below .none u (omega arith) bare e (omega (arith, second .bound u h e))
-          ]
-        ]
+-- What the counts choose, between two turns.
+pub chosen : (kind : Kind) (n : ℕ) (ends starts entries colors saturations waiting : List ℕ) → Ready kind n ends starts entries colors saturations waiting
+    → (choice : Choice) → optionOf choice ≡ choiceOf colors saturations waiting → Chosen colors saturations waiting choice
+chosen kind n ends starts entries colors saturations waiting ready choice e = record {
+  nothing = λ z. none-uncolored colors (length colors) (none-bare colors saturations waiting few (ready .saturations-room) (ready .waiting-room) (ready .cleared .counts) (sym (ap optionOf z) ∙ e));
+  next = λ v z. best-leads colors saturations waiting (v .0) (some-best colors saturations waiting few (ready .saturations-room) (ready .waiting-room) (v .0) (sym (ap optionOf z) ∙ e));
+}
+  where
+    few : length colors ≤ 4096
+    few = items-few kind n ends (length colors) (ready .tabled .sized)
 
 -- ---- the counts are those of the definition
 

@@ -8,8 +8,7 @@ use Rattle.graph.specs.Colored.{smallestFreeAt}
 use Rattle.greedy.specs.Turn.{uncolored, colorItem}
 use Rattle.greedy.specs.Saturation.{saturationFrom, saturationColors}
 use Rattle.saturation.specs.Counts.{Counted}
-use Rattle.saturation.specs.Choice.{Leads}
-use Rattle.saturation.proofs.ChoiceLaws.{leads-chosen}
+use Rattle.saturation.proofs.ChoiceLaws.{Leads, leads-chosen}
 use Rattle.saturation.specs.Turns.{turnOf}
 
 module _ (nb : ℕ → List ℕ) (n : ℕ) where
