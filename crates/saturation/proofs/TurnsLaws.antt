@@ -1,15 +1,13 @@
 -- Laws of what specs/Turns defines.
 use Prim.Native.Nat.{ℕ, zero, suc, _+_, _-_, _≤_, _<_}
-use mathlib.Core.Path.{_≡_, refl, sym, ap, _∙_}
+use mathlib.Core.Path.{_≡_, refl, ap, _∙_}
 use mathlib.Core.List.{List, [], _∷_}
 use native.Mathlib.Omega.{arith}
 use lib.ListN.{set}
 use Rattle.graph.specs.Colored.{smallestFreeAt}
 use Rattle.greedy.specs.Turn.{uncolored, colorItem}
 use Rattle.greedy.specs.Saturation.{saturationFrom, saturationColors}
-use Rattle.saturation.specs.Counts.{Counted}
-use Rattle.saturation.specs.Choice.{Leads}
-use Rattle.saturation.proofs.ChoiceLaws.{leads-chosen}
+use Rattle.saturation.proofs.ChoiceLaws.{Leads}
 use Rattle.saturation.specs.Turns.{turnOf}
 
 module _ (nb : ℕ → List ℕ) (n : ℕ) where
@@ -17,10 +15,10 @@ module _ (nb : ℕ → List ℕ) (n : ℕ) where
   unfolding turnOf
   turn-none colors e = rw (turnOf, e)
 
-  pub turn-chosen : (colors colors′ saturations waiting : List ℕ) (best c : ℕ) → Counted nb n colors saturations waiting → Leads saturations waiting colors n best → c ≡ smallestFreeAt colors (nb best)
+  pub turn-chosen : (colors colors′ : List ℕ) (best c : ℕ) → Leads nb colors n best → c ≡ smallestFreeAt colors (nb best)
       → colors′ ≡ set colors best c → colors′ ≡ turnOf nb n colors
   unfolding turnOf colorItem
-  turn-chosen colors colors′ saturations waiting best c counted l e p = p ∙ rw (turnOf, l .candidates, sym (leads-chosen nb n colors saturations waiting counted best l), e)
+  turn-chosen colors colors′ best c l e p = p ∙ rw (turnOf, l .candidates, ← l .best-is, e)
 
   -- Where every item has a colour the run is over.
   over : (turns : ℕ) (colors : List ℕ) → uncolored colors n ≡ [] → saturationFrom nb n turns colors ≡ colors

@@ -3,5 +3,4 @@ pub mod Counts
 pub mod Notes
 pub mod Taken
 pub mod Start
-pub mod Choice
 pub mod Turns

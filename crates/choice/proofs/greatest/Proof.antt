@@ -1,0 +1,42 @@
+-- `greatest` meets its contract. The invariant: the best so far is the greatest of the counts passed.
+-- The measure: what is left to go over, n - v; each turn goes on by one.
+use Prim.Native.Nat.{ℕ, _≤_, _-_}
+use mathlib.Core.Path.{_≡_, refl}
+use native.Mathlib.Omega.{arith}
+use lib.ListN.{getD}
+use borrow.Author.Needs.{needs}
+use Rattle.choice.specs.Choice.{greatestBelow}
+use Rattle.choice.proofs.ChoiceLaws.{greatest-none, greatest-same, greatest-more, greatest-all}
+use Rattle.choice.proofs.greatest.Statement.{statement}
+use Rattle.choice.proofs.greatest.Tie as tie
+
+abbrev Inv-loop : tie.InvT-loop
+Inv-loop counts n best₀ v₀ best v = (v ≤ n) × (best ≡ greatestBelow (λ (u : ℕ). getD counts u 0) v)
+
+abbrev μ-loop : tie.MeasureT-loop
+μ-loop counts n best₀ v₀ best v = n - v
+
+loop-holds : tie.Need-loop-holds Inv-loop μ-loop
+loop-holds c = (omega arith, greatest-none _)
+
+loop-again : tie.Need-loop-again Inv-loop μ-loop
+loop-again c = (omega (arith, c .before .before .loop-test .taken), greatest-more _ _ _ _ (c .before .before .before .loop .inv .1) refl (c .if1 .taken))
+
+loop-again-2 : tie.Need-loop-again-2 Inv-loop μ-loop
+loop-again-2 c = (omega (arith, c .before .before .loop-test .taken), greatest-same _ _ _ _ (c .before .before .before .loop .inv .1) refl (c .if1 .left))
+
+returns : tie.Need-returns Inv-loop μ-loop
+returns c = greatest-all _ _ _ _ (c .before .loop .inv .1) (c .before .loop .inv .0) (c .loop-test .left)
+
+pub greatest-spec : {M : Type 1} → statement M
+greatest-spec =
+    tie.close
+    (tie.spec
+    Inv-loop
+    μ-loop
+    loop-holds
+    (λ c. search needs) (λ c. search needs) (λ c. search needs) (λ c. search needs)
+    loop-again
+    (λ c. search needs)
+    loop-again-2
+    returns)

@@ -1,0 +1,2 @@
+-- The choice of the next item of Saturation.
+pub mod Choice
