@@ -17,8 +17,7 @@ use Rattle.graph.proofs.EdgeLaws.{far-first, far-second}
 use Rattle.vizing.proofs.Theorem.{max-degree-bound}
 use Rattle.vizing.specs.Clause.{VizingColoring}
 use Rattle.greedy.specs.Call.{PrecoloringKept, ProperNodeColoring, ProperEdgeColoring}
-use Rattle.two_color.specs.Odd.{isOdd}
-use Rattle.two_color.specs.Walk.{Walk, stay, along, OddClosedWalk}
+use Rattle.two_color.specs.Walk.{isOdd, Walk, stay, along, OddClosedWalk}
 use Rattle.two_color.specs.TwoColor.{Bipartition}
 use Rattle.callers.specs.Reliance.{EdgesProperlyColored, NoPresetMoved, AdjacentNodesDiffer, AdjacentEdgesDiffer, DiffersAlongEveryEdge, NoAssignment, BipartitionOrNone}
 

@@ -9,22 +9,18 @@ use borrow.Author.Tests.{eq-eqb, ne-eqb, lt-ltb, le-ltb, ltb-true, eqb-true}
 use Rattle.lists.proofs.MemberLaws.{map-append, dec-mem, mem-getD}
 use Rattle.items.specs.declared.Kind.{Kind}
 use Rattle.items.specs.Items.{firstNode, secondNode, acrossOf}
-use Rattle.color_marks.specs.Around.{acrossAll, along, around}
+use Rattle.color_marks.specs.Marks.{acrossAll, along, around, stored, hasColor, standsAt, stands, markOf, Asked, usedMarks}
 use mathlib.Core.Logic.{inl, inr}
 use native.Mathlib.Omega.{arith}
 use Rattle.lists.specs.Member.{Mem, elem}
-use Rattle.color_marks.specs.Stored.{stored}
 use mathlib.Core.Bool.{Bool, true, false, _||_, false≢true, cond}
 use native.Mathlib.Nat.{le-refl}
 use lib.Dec.{eqb, ltb}
 use Rattle.lists.proofs.Tests.{and-true, and-false, or-true, true-or, dec-eq}
 use Rattle.graph.specs.Colored.{colorOf}
 use Rattle.graph.proofs.ColorLaws.{color-read}
-use Rattle.color_marks.specs.Standing.{hasColor, standsAt}
 use Rattle.graph.specs.Stretch.{stretch}
 use Rattle.graph.specs.Color.{noColor}
-use Rattle.color_marks.specs.Marks.{stands, markOf, Asked}
-use Rattle.color_marks.specs.Used.{usedMarks}
 
 -- ---- Laws of what specs/Around defines.
 

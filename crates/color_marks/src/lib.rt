@@ -3,11 +3,7 @@
 ghost use mathlib.Core.Path.{_≡_};
 ghost use Rattle.lists.specs.Member.{elem};
 ghost use Rattle.graph.specs.Stretch.{stretch};
-ghost use Rattle.color_marks.specs.Standing.{standsAt};
-ghost use Rattle.color_marks.specs.Around.{acrossAll, around};
-ghost use Rattle.color_marks.specs.Stored.{stored};
-ghost use Rattle.color_marks.specs.Marks.{stands, markOf, Asked};
-ghost use Rattle.color_marks.specs.Used.{usedMarks};
+ghost use Rattle.color_marks.specs.Marks.{standsAt, acrossAll, around, stored, stands, markOf, Asked, usedMarks};
 use edge_walk::edges_at;
 use graph::Color;
 use graph::EdgeIndex;

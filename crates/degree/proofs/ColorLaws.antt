@@ -25,9 +25,8 @@ use Rattle.items.specs.declared.Kind.{Kind}
 use Rattle.items.specs.declared.Kind.the-variants.{Nodes, Edges}
 use Rattle.items.specs.Items.{itemsOf, neighborsOf, freeColor, Tabled}
 use Rattle.items.proofs.ItemsLaws.{items-few, free-smallest}
-use Rattle.degree.specs.Buckets.{fallingBuckets}
+use Rattle.degree.specs.Order.{fallingBuckets, degreeIn, Countable}
 use Rattle.degree.proofs.OrderLaws.{falling-same, degreeAmong, degree-among, order-buckets, order-member, order-nodup}
-use Rattle.degree.specs.Count.{degreeIn, Countable}
 use Rattle.degree.proofs.PlaceLaws.{zeros-at}
 use Rattle.degree.specs.Color.{Room, Waiting}
 

@@ -7,7 +7,7 @@ use native.Mathlib.Omega.{arith}
 use lib.ListN.{length, getD, take, drop, set, take-append-drop, length-append, length-drop}
 use lib.Seq.{drop-cons, set-at, take-at, drop-append-add, drop-drop, length-take-le, take-all, take-suc, take-length, drop-length}
 use Rattle.graph.specs.Table.{over}
-use Rattle.line_graph.specs.Placed.{placed}
+use Rattle.line_graph.specs.WrittenPairs.{placed, pairsBelow}
 use mathlib.Core.Logic.{inl, inr}
 use native.Mathlib.Numerals.{add-one}
 use Rattle.lists.proofs.Tests.{dec-eq}
@@ -15,7 +15,6 @@ use Rattle.lists.specs.Parts.{part}
 use Rattle.graph.specs.Edges.{edgeCount}
 use Rattle.graph.specs.Stretch.{stretch, Table}
 use Rattle.line_list.specs.LineList.{pairsWith, pairsOf, linePairs}
-use Rattle.line_graph.specs.WrittenPairs.{pairsBelow}
 
 -- ---- Laws of what specs/Placed defines.
 

@@ -1,4 +1,3 @@
 -- The line list as the call answers and writes it.
 pub mod LineReport
-pub mod Placed
 pub mod WrittenPairs

@@ -1,8 +1,17 @@
--- The pairs of the nodes below one, as the code writes them.
-use Prim.Native.Nat.{ℕ, zero, suc}
-use mathlib.Core.List.{List, [], _++_}
+-- The pairs as they are written.
+use Prim.Native.Nat.{ℕ, _+_, zero, suc}
+use mathlib.Core.List.{List, _++_, []}
+use lib.ListN.{length, take, drop}
 use Rattle.graph.specs.Stretch.{stretch}
 use Rattle.line_list.specs.LineList.{pairsOf}
+
+-- ---- A list written into another from a place on.
+
+-- `part` stands in l from place `at` on; the numbers before and beyond are l's.
+unfoldable pub placed : List ℕ → ℕ → List ℕ → List ℕ
+placed l at part = take at l ++ (part ++ drop (at + length part) l)
+
+-- ---- The pairs of the nodes below one, as the code writes them.
 
 -- ---- what stands after some turns of each loop
 

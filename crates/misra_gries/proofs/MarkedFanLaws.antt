@@ -29,7 +29,7 @@ use Rattle.fan.specs.declared.candidates.Joining.{Joining}
 use Rattle.fan.specs.declared.candidates.Joining.the-variants.{Edge, Nothing}
 use Rattle.fan.specs.Candidates.{optionOf, firstThat, mayJoin, joinsMarked}
 use Rattle.fan.proofs.CandidateLaws.{Passed, first-behind}
-use Rattle.misra_gries.specs.MarkedFan.{FanReady}
+use Rattle.misra_gries.specs.Step.{FanReady}
 
 -- ---- an edge takes the mark
 

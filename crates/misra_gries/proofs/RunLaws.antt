@@ -27,11 +27,9 @@ use Rattle.edge_table.specs.TableOf.{FitsTable}
 use Rattle.edge_table.proofs.TableOfLaws.{start-table}
 use Rattle.misra_gries.specs.declared.tally.Tally.{Tally}
 use Rattle.misra_gries.proofs.StepLaws.{palette}
-use Rattle.misra_gries.specs.Step.{InRange, Ready, topColor}
-use Rattle.misra_gries.specs.Tally.{tallyOf, Tallied}
+use Rattle.misra_gries.specs.Step.{InRange, Ready, topColor, tallyOf, Tallied, Running}
 use Rattle.edge_table.specs.EdgeTable.{noEdge}
 use Rattle.edge_table.proofs.EdgeTableLaws.{getD-same}
-use Rattle.misra_gries.specs.Run.{Running}
 
 -- ---- Days read off the tally: the greatest colour plus one, or 0 where no edge is coloured.
 

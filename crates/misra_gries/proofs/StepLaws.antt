@@ -7,7 +7,7 @@ use Rattle.vizing.specs.Demand3.{Admitted, maxDegree}
 use Rattle.vizing.proofs.Theorem.{degree-max, max-degree-bound, max-degree-attained}
 use Rattle.vizing.proofs.StepLaws.{Palette, degree-palette, exchange-none, FoundLaws, found-laws, step-keeps}
 use Rattle.vizing.proofs.SimpleLaws.{degree-below}
-use Rattle.misra_gries.specs.Step.{InRange, Ready, Exchanging, Turning, Turned, topColor}
+use Rattle.misra_gries.specs.Step.{InRange, Ready, Exchanging, Turning, Turned, topColor, FanReady}
 use mathlib.Core.Path.{_≡_, refl, sym, ap, _∙_}
 use mathlib.Core.Bool.{Bool, true}
 use native.Mathlib.Nat.{min-le-left}
@@ -15,7 +15,6 @@ use lib.ListN.{length, getD, take, drop, length-append, length-take}
 use lib.Seq.{length-take-le, take-append-le}
 use borrow.Author.Tests.{eq-eqb, ne-eqb}
 use Rattle.graph.specs.Stretch.{stretch}
-use Rattle.misra_gries.specs.MarkedFan.{FanReady}
 use Rattle.graph.proofs.EdgeLaws.{far-first}
 use Rattle.graph.specs.Colored.{smallestFreeAt}
 use Rattle.vizing.specs.MisraGries.{lastOf, fanOf, path, exchange, store, find, step}

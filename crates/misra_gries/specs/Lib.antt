@@ -1,5 +1,2 @@
 -- Misra-Gries edge colouring in code: what the step and its parts, the tally and the run hold.
-pub mod MarkedFan
 pub mod Step
-pub mod Tally
-pub mod Run

@@ -1,20 +1,38 @@
--- What the step of one edge asks, and what it does.
-use Prim.Native.Nat.{ℕ, _+_, _≤_, _<_}
+-- What the step of one edge asks and does, with its fan, its tally, and the run.
+use Prim.Native.Nat.{ℕ, _≤_, _<_, _+_}
 use mathlib.Core.Path.{_≡_}
 use mathlib.Core.Logic.{_≢_}
 use mathlib.Core.List.{List}
-use mathlib.Core.Bool.{cond}
 use lib.ListN.{length, getD}
-use lib.Dec.{eqb}
-use Rattle.graph.specs.Edges.{edgeCount, firstEnd, secondEnd}
-use Rattle.graph.specs.Stretch.{Table}
+use Rattle.graph.specs.Edges.{firstEnd, edgesAt, edgeCount, secondEnd}
 use Rattle.graph.specs.Color.{noColor}
-use Rattle.vizing.specs.MisraGries.{fanOf, path, Found, find, step}
+use Rattle.vizing.specs.MisraGries.{isFree, fanOf, path, Found, find, step, heldAfter, held}
+use Rattle.edge_table.specs.EdgeTable.{isEmpty}
+use mathlib.Core.Bool.{cond}
+use lib.Dec.{eqb, ltb}
+use Rattle.graph.specs.Stretch.{Table}
 use Rattle.vizing.specs.Demand3.{Admitted, maxDegree}
 use Rattle.vizing.specs.Step.{Invariant}
 use Rattle.edge_table.specs.TableOf.{TableOf}
 use Rattle.edge_table.specs.Repaint.{Repaintable}
 use Rattle.edge_table.specs.StepRepaint.{exchangedColors}
+use Rattle.vizing.specs.MisraGries as definition
+use Rattle.misra_gries.specs.declared.tally.Tally.{Tally}
+
+-- ---- What the code grows the fan of an edge from: the marks and the edge table.
+
+-- What the fan of edge k is grown from: its first end u, the edges at u, marks below the stamp s with a place for each edge, and a
+-- table that says of every colour at every node whether it is free in l.
+pub record FanReady (ends : List ℕ) (m : ℕ) (l T M : List ℕ) (s : ℕ) (near : List ℕ) (k u : ℕ) : Type 0 where
+  pub edge : k < m
+  pub node : u ≡ firstEnd ends k
+  pub candidates : near ≡ edgesAt ends m u
+  pub few : length near ≤ 512
+  pub size : m ≤ length M
+  pub unmarked : (j : ℕ) → getD M j 0 < s
+  pub says-free : (x c : ℕ) → c ≢ noColor → isEmpty T x c ≡ isFree l (edgesAt ends m x) c
+
+-- ---- What the step of one edge asks, and what it does.
 
 -- The colours from 0 to D.
 abbrev pub InRange : ℕ → List ℕ → ℕ → Type 0
@@ -68,3 +86,35 @@ pub record Turned (n : ℕ) (ends work : List ℕ) (k color : ℕ) (work′ tabl
   pub list : work′ ≡ step ends (edgeCount ends) n work k
   pub tabled : TableOf ends (edgeCount ends) work′ table′
   pub top : color ≡ topColor (find ends (edgeCount ends) n work k)
+
+-- ---- The tally that the code keeps, after one edge more and after a step that gave it its colour.
+
+-- The definition's tally with these two numbers.
+abbrev pub tallyOf : Tally → definition.Tally
+tallyOf t = record { edges = t .edges; greatest = t .greatest }
+
+-- one edge more, of the colour c
+abbrev pub notedOf : Tally → ℕ → Tally
+notedOf t c = record {
+  edges = t .edges + 1;
+  greatest = cond (ltb (t .greatest) c) c (t .greatest);
+}
+
+-- the step gave the edge e some colour, and the tally t became t′ by it
+pub record Tallied (n : ℕ) (ends starts entries work table marks : List ℕ) (e : ℕ) (t t′ : Tally) (work′ table′ marks′ : List ℕ) : Type 0 where
+  pub color : ℕ
+  pub stepped : Stepped n ends starts entries work table marks e color work′ table′ marks′
+  pub noted : t′ ≡ notedOf t color
+
+-- ---- The run: the working list, its table, the marks and the tally after k edges.
+
+-- After k edges the working list and the tally are what the definition holds.
+pub record Running (n : ℕ) (ends starts entries work table marks : List ℕ) (t : Tally) (k : ℕ) : Type 0 where
+  pub admitted : Admitted n ends
+  pub rows : Table ends n starts entries
+  pub bound : k ≤ edgeCount ends
+  pub list : work ≡ held n ends k
+  pub tabled : TableOf ends (edgeCount ends) work table
+  pub size : edgeCount ends ≤ length marks
+  pub unmarked : (j : ℕ) → getD marks j 0 < k + 1
+  pub tally : tallyOf t ≡ heldAfter ends (edgeCount ends) n k .tally

@@ -12,7 +12,7 @@ ghost use Prim.Native.Nat.{ℕ, _≤_};
 ghost use lib.ListN.{length, getD, take};
 ghost use Rattle.graph.specs.Edges.{edgeCount};
 ghost use Rattle.vizing.specs.MisraGries.{fanOf};
-ghost use Rattle.misra_gries.specs.MarkedFan.{FanReady};
+ghost use Rattle.misra_gries.specs.Step.{FanReady};
 
 // The fan of the edge at its first end, the node, whose edges are `near`. It goes to the front of out; the answer is its length.
 pub(crate) fn grow(

@@ -1,6 +1,6 @@
 // The run over all edges.
 ghost use Rattle.graph.specs.Edges.{edgeCount};
-ghost use Rattle.misra_gries.specs.Run.{Running};
+ghost use Rattle.misra_gries.specs.Step.{Running};
 use crate::tally::Tally;
 use crate::tally::step_kept;
 use graph::EdgeIndex;

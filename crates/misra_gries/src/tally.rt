@@ -4,8 +4,7 @@ use graph::Color;
 use graph::EdgeIndex;
 ghost use mathlib.Core.Path.{_≡_};
 ghost use Prim.Native.Nat.{_<_, _+_, _^_};
-ghost use Rattle.misra_gries.specs.Step.{Ready};
-ghost use Rattle.misra_gries.specs.Tally.{notedOf, Tallied};
+ghost use Rattle.misra_gries.specs.Step.{Ready, notedOf, Tallied};
 
 // Edges coloured, and the greatest colour that any edge has; both 0 before the first edge.
 pub(crate) struct Tally {

@@ -1,33 +1,31 @@
--- Laws of what specs/Taken defines.
+-- Laws of a colour taken, from the start on: the counts stay those of the definition.
 use Prim.Native.Nat.{ℕ, suc, _+_, _≤_, _<_}
 use mathlib.Core.Path.{_≡_, refl, sym, ap, subst, _∙_}
 use mathlib.Core.Logic.{inl, inr, _≢_}
-use mathlib.Core.List.{List, _∷_}
+use mathlib.Core.List.{List, _∷_, [], map}
 use native.Mathlib.Omega.{arith}
-use lib.ListN.{length, getD, set, replicate, length-set, length-replicate}
-use lib.Seq.{set-getD, getD-set-same, getD-set-other}
+use lib.ListN.{length, getD, set, replicate, length-set, length-replicate, getD-replicate, List·getD-eq-default}
+use lib.Seq.{set-getD, getD-set-same, getD-set-other, ext-getD}
 use Rattle.lists.proofs.Tests.{by-test, dec-eq}
 use Rattle.lists.specs.Member.{Mem}
 use Rattle.lists.specs.Different.{different, count}
-use Rattle.lists.proofs.MemberLaws.{count-none}
+use Rattle.lists.proofs.MemberLaws.{count-none, different-none}
 use Rattle.graph.specs.Color.{noColor}
-use Rattle.graph.specs.Colored.{colorOf, isColored}
-use Rattle.graph.proofs.ColorLaws.{color-read, color-set-same, color-set-other, uncolored-false}
+use Rattle.graph.specs.Colored.{colorOf, isColored, coloredAmong}
+use Rattle.graph.proofs.ColorLaws.{color-read, color-set-same, color-set-other, uncolored-false, color-outside}
 use Rattle.greedy.specs.Greedy.{Neighborhood}
 use Rattle.greedy.specs.Saturation.{saturation, uncoloredNeighbors, uncoloredAmong}
 use Rattle.items.specs.declared.Kind.{Kind}
 use Rattle.items.specs.Items.{neighborsOf, Tabled}
-use Rattle.items.proofs.ItemsLaws.{neighborhood}
-use Rattle.saturation.specs.Counts.{Counted, Cleared}
-use Rattle.saturation.proofs.CountsLaws.{colorsAmong, count-mem, mem-count, different-few, uncolored-falls, different-stays, different-grows}
-use Rattle.saturation.specs.Notes.{Noted, Room}
-use Rattle.saturation.proofs.NotesLaws.{none-noted}
-use Rattle.saturation.proofs.Known.{Known, known}
-use Rattle.color_marks.specs.Around.{around}
-use Rattle.color_marks.specs.Stored.{stored}
-use Rattle.color_marks.specs.Marks.{markOf}
-use Rattle.saturation.proofs.Around.{around-times}
-use Rattle.saturation.specs.Taken.{Ready}
+use Rattle.items.proofs.ItemsLaws.{neighborhood, items-few}
+use Rattle.saturation.specs.Counts.{Counted, Cleared, Noted, Room, Ready, Started, Preset}
+use Rattle.saturation.proofs.CountsLaws.{colorsAmong, count-mem, mem-count, different-few, uncolored-falls, different-stays, different-grows, Known, known}
+use Rattle.saturation.proofs.NotesLaws.{none-noted, around-times}
+use Rattle.color_marks.specs.Marks.{around, stored, markOf}
+use native.Mathlib.Nat.{not-suc-le-zero}
+use native.Mathlib.Decide.{decLt}
+
+-- ---- Laws of what specs/Taken defines.
 
 pub saturation-among : (nb : ℕ → List ℕ) (colors : List ℕ) (v : ℕ) → saturation nb colors v ≡ different (colorsAmong colors (nb v))
 unfolding saturation colorsAmong
@@ -174,3 +172,83 @@ module _ (kind : Kind) (n : ℕ) (ends starts entries colors s₀ w₀ : List �
       let noted = idle-noted (neighborsOf kind n ends) (length colors) hood colors s₀ w₀ us v c refl (ready .counted) inside bare real (λ u d. around-times kind n ends starts entries (length colors) (ready .tabled) v u inside d) z m in
       let marks = known kind n ends starts entries colors c (ready .tabled) real us (replicate 4096 0) m (omega (arith, length-replicate {A = ℕ} 4096 0)) refl in
       subst (Ready kind n ends starts entries (set colors v c) (set s₀ v 0)) (ap (set w₀ v) (sym z) ∙ set-getD w₀ v 0) (take-ready m s₀ w₀ m marks noted refl refl)
+
+-- ---- Laws of what specs/Start defines.
+
+pub started-none : (nb : ℕ → List ℕ) (colors waiting : List ℕ) → Started nb 0 colors waiting
+started-none nb colors waiting = record { bare = λ u h. absurd (not-suc-le-zero h); waits = λ u h. absurd (not-suc-le-zero h) }
+
+pub started-more : (nb : ℕ → List ℕ) (colors waiting : List ℕ) (v x : ℕ) → Started nb v colors waiting → v < length colors → v < length waiting → x ≡ length (nb v) → Started nb (v + 1) (set colors v 65535) (set waiting v x)
+started-more nb colors waiting v x p h k q = record {
+  bare = λ u b. elim (dec-eq u v) [
+    | inl z ↦ rw z (color-set-same colors v 65535 h)
+    | inr z ↦ color-set-other colors v 65535 u z ∙ p .bare u (omega arith)
+  ];
+  waits = λ u b. elim (dec-eq u v) [
+    | inl z ↦ rw z (getD-set-same waiting v x 0 k ∙ q)
+    | inr z ↦ getD-set-other waiting v u x 0 z ∙ p .waits u (omega arith)
+  ];
+}
+
+pub started-all : (nb : ℕ → List ℕ) (colors waiting : List ℕ) (v n : ℕ) → Started nb v colors waiting → v ≤ n → n ≤ v → Started nb n colors waiting
+started-all nb colors waiting v n p h k = let e : v ≡ n = omega arith in rw e at p
+
+none-colored : (colors us : List ℕ) → ((u : ℕ) → colorOf colors u ≡ noColor) → coloredAmong colors us ≡ []
+unfolding coloredAmong
+none-colored colors [] bare = refl
+none-colored colors (u ∷ us) bare = rw (uncolored-false colors u (bare u)) (none-colored colors us bare)
+
+all-uncolored : (colors us : List ℕ) → ((u : ℕ) → colorOf colors u ≡ noColor) → uncoloredAmong colors us ≡ length us
+unfolding uncoloredAmong
+all-uncolored colors [] bare = refl
+all-uncolored colors (u ∷ us) bare = rw (uncolored-false colors u (bare u)) (ap suc (all-uncolored colors us bare))
+
+-- No item has a colour.
+started-bare : (nb : ℕ → List ℕ) (n : ℕ) (colors waiting : List ℕ) → length colors ≡ n → Started nb n colors waiting → (u : ℕ) → colorOf colors u ≡ noColor
+started-bare nb n colors waiting size p u = elim (decLt u n) [ yes h ↦ p .bare u h | no h ↦ color-outside colors u (omega arith) ]
+
+started-counted : (nb : ℕ → List ℕ) (n : ℕ) (colors saturations waiting : List ℕ) → length colors ≡ n → Started nb n colors waiting → ((v : ℕ) → getD saturations v 0 ≡ 0) → Counted nb n colors saturations waiting
+unfolding colorsAmong
+started-counted nb n colors saturations waiting size p zeros =
+    let bare = started-bare nb n colors waiting size p in
+    record {
+      differs = λ v h e. sym (saturation-among nb colors v ∙ (ap (λ (l : List ℕ). different (map (colorOf colors) l)) (none-colored colors (nb v) bare) ∙ (different-none ∙ sym (zeros v))));
+      waits = λ v h e. sym (waiting-among nb colors v ∙ (all-uncolored colors (nb v) bare ∙ sym (p .waits v h)));
+    }
+
+pub zero-at : (n v : ℕ) → _≡_ {A = ℕ} (getD (replicate n 0) v 0) 0
+zero-at n v = elim (decLt v n) [ yes h ↦ getD-replicate n v 0 0 h | no h ↦ List·getD-eq-default (replicate n 0) 0 (rw (length-replicate {A = ℕ} n 0) (omega arith)) ]
+
+-- The counts are ready for the presets.
+pub started-ready : (kind : Kind) (n : ℕ) (ends starts entries : List ℕ) (items : ℕ) (colors saturations waiting : List ℕ) → Tabled kind n ends starts entries items
+    → length colors ≡ items → saturations ≡ replicate 4096 0 → length waiting ≡ 4096 → Started (neighborsOf kind n ends) items colors waiting → Ready kind n ends starts entries colors saturations waiting
+started-ready kind n ends starts entries items colors saturations waiting tabled size zeros room started =
+    let few = items-few kind n ends items (tabled .sized) in
+    record {
+      tabled = rw size tabled;
+      counted = rw size (started-counted (neighborsOf kind n ends) items colors saturations waiting size started (λ v. ap (λ (l : List ℕ). getD l v 0) zeros ∙ zero-at 4096 v));
+      cleared = record { counts = λ v d. absurd (d (started-bare (neighborsOf kind n ends) items colors waiting size started v)) };
+      saturations-room = omega (arith, few, ap length zeros ∙ length-replicate {A = ℕ} 4096 0);
+      waiting-room = omega (arith, few);
+    }
+
+-- ---- presets
+
+pub preset-none : (nb : ℕ → List ℕ) (n : ℕ) (presets colors waiting : List ℕ) → length colors ≡ n → Started nb n colors waiting → Preset presets 0 colors
+preset-none nb n presets colors waiting size p = record {
+  done = λ u h. absurd (not-suc-le-zero h);
+  bare = λ u h. started-bare nb n colors waiting size p u;
+}
+
+pub preset-more : (presets colors colors′ : List ℕ) (v c : ℕ) → Preset presets v colors → v < length colors → v < length presets → c ≡ getD presets v 0 → colors′ ≡ set colors v c → Preset presets (v + 1) colors′
+preset-more presets colors colors′ v c p h k e q = rw q (record {
+  done = λ u b. elim (dec-eq u v) [
+    | inl z ↦ rw z (color-set-same colors v c h ∙ (e ∙ color-read presets v 0 k))
+    | inr z ↦ color-set-other colors v c u z ∙ p .done u (omega arith)
+  ];
+  bare = λ u b. color-set-other colors v c u (λ z. omega arith) ∙ p .bare u (omega arith);
+})
+
+pub preset-all : (presets colors : List ℕ) (v : ℕ) → Preset presets v colors → length colors ≡ length presets → length presets ≤ v → colors ≡ presets
+unfolding colorOf
+preset-all presets colors v p e h = ext-getD noColor colors presets e (λ u b. p .done u (omega arith))

@@ -13,9 +13,8 @@ use Rattle.lists.proofs.Tests.{by-test, dec-eq, and-true, or-true, true-or, or-
 use Rattle.lists.proofs.SearchLaws.{length-tabulate, tabulate-at}
 use Rattle.graph.specs.Edges.{firstEnd, secondEnd, farEnd, At}
 use Rattle.graph.proofs.EdgeLaws.{far-first, far-second}
-use Rattle.two_color.specs.Odd.{isOdd}
+use Rattle.two_color.specs.Walk.{isOdd, Walk, stay, along, OddClosedWalk}
 use Rattle.two_color.proofs.WalkLaws.{false-xor, xor-false, not-xor, xor-not, WalkOf, walk-first, walk-second, walk-widen, of-append, of-reverse, of-widen, of-edge}
-use Rattle.two_color.specs.Walk.{Walk, stay, along, OddClosedWalk}
 use Rattle.two_color.specs.Sides.{lower, givesWay, lowest, oddSide, oddCycle, sideColor, sides}
 -- No name of it is used: the rows are to be checked before the laws, so that a wrong definition is refused for what it gives.
 use Rattle.two_color.specs.Examples

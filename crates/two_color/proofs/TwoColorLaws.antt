@@ -19,12 +19,11 @@ use Rattle.graph.specs.declared.Refusal.{Refusal}
 use Rattle.graph.specs.declared.Graph.{Graph}
 use Rattle.graph.specs.declared.Checked.{Checked}
 use Rattle.graph.specs.declared.Checked.the-variants as C
-use Rattle.two_color.specs.Walk.{OddClosedWalk, Walk}
+use Rattle.two_color.specs.Walk.{OddClosedWalk, Walk, isOdd}
 use Rattle.two_color.specs.Sides.{oddCycle, sideColor, sides, lowest}
 use Rattle.two_color.proofs.SideLaws.{odd-cycle-walk, walk-odd-cycle, side-color-bound, color-second, length-sides, sides-at, lowest-node-one, lowest-le, lowest-same, lowest-walk, proper-walk}
 use Rattle.two_color.specs.Components.{NodesColored}
 use Rattle.two_color.specs.TwoColor.{inputChecks, twoColor, sidesOutcome, Bipartition, OneBipartition}
-use Rattle.two_color.specs.Odd.{isOdd}
 
 -- ---- Laws of the call: one for each answer, and the clause of the bipartition.
 

@@ -3,13 +3,12 @@ use Prim.Native.Nat.{ℕ, zero, suc, _+_, _<_}
 use mathlib.Core.Path.{_≡_, refl}
 use mathlib.Core.Bool.{Bool, true, false, not, xor}
 use native.Mathlib.Nat.{zero-add, suc-add}
-use Rattle.two_color.specs.Odd.{isOdd}
+use Rattle.two_color.specs.Walk.{isOdd, Walk, stay, along, OddClosedWalk}
 use mathlib.Core.Logic.{inl}
 use mathlib.Core.List.{List}
 use native.Mathlib.Omega.{arith}
 use Rattle.graph.specs.Edges.{firstEnd, secondEnd, farEnd, At}
 use Rattle.graph.proofs.EdgeLaws.{far-first, far-at, far-far}
-use Rattle.two_color.specs.Walk.{Walk, stay, along, OddClosedWalk}
 
 -- ---- Laws of what specs/Odd defines.
 

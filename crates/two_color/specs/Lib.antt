@@ -1,5 +1,4 @@
 -- Two-colouring: walks, components and sides, the outcome, its clause and its examples.
-pub mod Odd
 pub mod Walk
 pub mod Sides
 pub mod TwoColor

@@ -1,10 +1,18 @@
--- Walks along the edges, and closed walks of odd length.
-use Prim.Native.Nat.{ℕ, suc, _<_}
+-- Walks, and the parity of a number.
+use Prim.Native.Nat.{ℕ, zero, suc, _<_}
+use mathlib.Core.Bool.{Bool, false, not, true}
 use mathlib.Core.Path.{_≡_}
 use mathlib.Core.List.{List}
-use mathlib.Core.Bool.{true}
 use Rattle.graph.specs.Edges.{farEnd, At}
-use Rattle.two_color.specs.Odd.{isOdd}
+
+-- ---- Odd lengths, as a test.
+
+-- "of odd length"
+unfoldable pub isOdd : ℕ → Bool
+isOdd zero = false
+isOdd (suc l) = not (isOdd l)
+
+-- ---- Walks along the edges, and closed walks of odd length.
 
 -- A walk of l edges from u to v along the first m edges.
 -- "Edge direction is ignored": each edge leaves one of its ends and arrives at the other.

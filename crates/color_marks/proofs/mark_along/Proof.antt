@@ -5,10 +5,8 @@ use mathlib.Core.Path.{_≡_, refl}
 use native.Mathlib.Omega.{arith}
 use lib.ListN.{length, take}
 use borrow.Author.Needs.{needs}
-use Rattle.color_marks.specs.Around.{acrossAll}
-use Rattle.color_marks.specs.Stored.{stored}
+use Rattle.color_marks.specs.Marks.{acrossAll, stored, markOf, Asked}
 use Rattle.color_marks.proofs.MarksLaws.{along-none, along-more, along-outside, along-all}
-use Rattle.color_marks.specs.Marks.{markOf, Asked}
 use Rattle.color_marks.proofs.mark_along.Statement.{statement}
 use Rattle.color_marks.proofs.mark_along.Tie as tie
 

@@ -6,7 +6,7 @@ use mathlib.Core.Bool.{false}
 use native.Mathlib.Omega.{arith}
 use lib.ListN.{length, drop}
 use borrow.Author.Needs.{needs}
-use Rattle.color_marks.specs.Standing.{standsAt}
+use Rattle.color_marks.specs.Marks.{standsAt}
 use Rattle.color_marks.proofs.MarksLaws.{stands-none, stands-outside, stands-other, stands-here, stands-nowhere}
 use Rattle.color_marks.proofs.stands_at.Statement.{statement}
 use Rattle.color_marks.proofs.stands_at.Tie as tie

@@ -6,7 +6,7 @@ use native.Mathlib.Omega.{arith}
 use lib.ListN.{length, take, length-set}
 use borrow.Author.Needs.{needs}
 use Rattle.line_list.specs.LineList.{pairsWith}
-use Rattle.line_graph.specs.Placed.{placed}
+use Rattle.line_graph.specs.WrittenPairs.{placed}
 use Rattle.line_graph.proofs.WrittenPairsLaws.{with-none, with-next, with-all}
 use Rattle.line_graph.proofs.pairs.write_pairs_with.Statement.{statement}
 use Rattle.line_graph.proofs.pairs.write_pairs_with.Tie as tie

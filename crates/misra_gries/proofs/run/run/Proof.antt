@@ -3,7 +3,7 @@
 use Prim.Native.Nat.{_-_}
 use mathlib.Core.Path.{_≡_, refl, _∙_}
 use lib.ListN.{length}
-use Rattle.misra_gries.specs.Run.{Running}
+use Rattle.misra_gries.specs.Step.{Running}
 use Rattle.misra_gries.proofs.RunLaws.{running-edges, running-ready, running-more}
 use Rattle.graph.specs.Edges.{edgeCount}
 use borrow.Author.Needs.{needs}

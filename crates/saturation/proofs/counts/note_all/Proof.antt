@@ -5,8 +5,8 @@ use mathlib.Core.Path.{_≡_, refl}
 use native.Mathlib.Omega.{arith}
 use lib.ListN.{length, take}
 use borrow.Author.Needs.{needs}
-use Rattle.color_marks.specs.Around.{acrossAll}
-use Rattle.saturation.specs.Notes.{Noted}
+use Rattle.color_marks.specs.Marks.{acrossAll}
+use Rattle.saturation.specs.Counts.{Noted}
 use Rattle.saturation.proofs.NotesLaws.{notes-none, notes-room, notes-more, notes-all}
 use Rattle.saturation.proofs.counts.note_all.Statement.{statement}
 use Rattle.saturation.proofs.counts.note_all.Tie as tie

@@ -2,9 +2,8 @@
 use mathlib.Core.Path.{refl}
 use native.Mathlib.Omega.{arith}
 use borrow.Author.Needs.{needs}
-use Rattle.saturation.proofs.TakenLaws.{take-tabled, take-inside, take-room, take-sizes, take-ready}
-use Rattle.saturation.proofs.Known.{used-known}
-use Rattle.saturation.proofs.StartLaws.{zero-at}
+use Rattle.saturation.proofs.TakenLaws.{take-tabled, take-inside, take-room, take-sizes, take-ready, zero-at}
+use Rattle.saturation.proofs.CountsLaws.{used-known}
 use Rattle.items.proofs.ItemsLaws.{items-few}
 use Rattle.saturation.proofs.counts.note_color.Statement.{statement}
 use Rattle.saturation.proofs.counts.note_color.Tie as tie

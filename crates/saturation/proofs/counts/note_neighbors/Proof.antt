@@ -1,7 +1,7 @@
 -- `note_neighbors` meets its contract: the items at one node note the colour, or at two, one node after the other.
 use native.Mathlib.Omega.{arith}
 use borrow.Author.Needs.{needs}
-use Rattle.saturation.proofs.Around.{first-across, second-across, around-first, around-second, one-noted, both-noted}
+use Rattle.saturation.proofs.NotesLaws.{first-across, second-across, around-first, around-second, one-noted, both-noted}
 use Rattle.saturation.proofs.counts.note_neighbors.Statement.{statement}
 use Rattle.saturation.proofs.counts.note_neighbors.Tie as tie
 

@@ -5,8 +5,8 @@ use mathlib.Core.Path.{_≡_, refl, _∙_}
 use native.Mathlib.Omega.{arith}
 use lib.ListN.{length}
 use borrow.Author.Needs.{needs}
-use Rattle.saturation.specs.Start.{Started}
-use Rattle.saturation.proofs.StartLaws.{started-none, started-more, started-all}
+use Rattle.saturation.specs.Counts.{Started}
+use Rattle.saturation.proofs.TakenLaws.{started-none, started-more, started-all}
 use Rattle.items.specs.Items.{neighborsOf}
 use Rattle.items.proofs.ItemsLaws.{items-few, neighbors-few, neighbors-counted}
 use Rattle.saturation.proofs.counts.start.Statement.{statement}

@@ -4,7 +4,7 @@ use native.Mathlib.Omega.{arith}
 use lib.ListN.{length}
 use borrow.Author.Needs.{needs}
 use Rattle.items.proofs.ItemsLaws.{items-few}
-use Rattle.saturation.proofs.StartLaws.{started-ready, preset-none}
+use Rattle.saturation.proofs.TakenLaws.{started-ready, preset-none}
 use Rattle.saturation.proofs.TurnsLaws.{from-presets}
 use Rattle.saturation.proofs.turns.run.Statement.{statement}
 use Rattle.saturation.proofs.turns.run.Tie as tie

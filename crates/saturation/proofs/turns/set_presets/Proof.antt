@@ -6,9 +6,8 @@ use native.Mathlib.Omega.{arith}
 use lib.ListN.{length}
 use borrow.Author.Needs.{needs}
 use Rattle.items.proofs.ItemsLaws.{items-few}
-use Rattle.saturation.specs.Start.{Preset}
-use Rattle.saturation.proofs.StartLaws.{preset-more, preset-all}
-use Rattle.saturation.specs.Taken.{Ready}
+use Rattle.saturation.specs.Counts.{Preset, Ready}
+use Rattle.saturation.proofs.TakenLaws.{preset-more, preset-all}
 use Rattle.saturation.proofs.turns.set_presets.Statement.{statement}
 use Rattle.saturation.proofs.turns.set_presets.Tie as tie
 

@@ -7,7 +7,7 @@ use lib.ListN.{length}
 use borrow.Author.Needs.{needs}
 use Rattle.greedy.specs.Saturation.{saturationFrom, saturationColors}
 use Rattle.items.specs.Items.{neighborsOf}
-use Rattle.saturation.specs.Taken.{Ready}
+use Rattle.saturation.specs.Counts.{Ready}
 use Rattle.saturation.proofs.TurnsLaws.{turn-size, turns-none, turns-more, turns-all}
 use Rattle.saturation.proofs.turns.take_turns.Statement.{statement}
 use Rattle.saturation.proofs.turns.take_turns.Tie as tie

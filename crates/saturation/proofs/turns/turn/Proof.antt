@@ -1,8 +1,7 @@
 -- `turn` meets its contract: the chosen item takes the smallest free colour.
 use borrow.Author.Needs.{needs}
 use Rattle.items.proofs.ItemsLaws.{free-smallest}
-use Rattle.saturation.proofs.ChoiceLaws.{chosen-none, chosen-next}
-use Rattle.saturation.proofs.TurnsLaws.{turn-none, turn-chosen}
+use Rattle.saturation.proofs.TurnsLaws.{chosen-none, chosen-next, turn-none, turn-chosen}
 use Rattle.saturation.proofs.turns.turn.Statement.{statement}
 use Rattle.saturation.proofs.turns.turn.Tie as tie
 
