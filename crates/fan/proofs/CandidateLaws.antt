@@ -19,33 +19,11 @@ use Rattle.graph.specs.Color.{noColor}
 use Rattle.graph.specs.Colored.{colorOf}
 use Rattle.graph.proofs.ColorLaws.{colored-true, uncolored-false}
 use Rattle.edge_table.specs.EdgeTable.{isEmpty}
-use Rattle.fan.specs.Candidates.{firstThat, mayJoin, joinsMarked}
+use Rattle.fan.specs.Candidates.{mayJoin, joinsMarked}
 
 -- No candidate before place lo may join.
 unfoldable pub Passed : List ℕ → List ℕ → ℕ → List ℕ → ℕ → Type 0
 Passed l M s near lo = (k : ℕ) → Mem k (take lo near) → mayJoin l M s k ≡ false
-
--- ---- the first that passes a test
-
--- The search, as the code goes on with it.
-module _ (t : ℕ → Bool) (ks : List ℕ) (i : ℕ) (o : Option ℕ) (e : firstThat t (drop i ks) ≡ o) where
-  pub first-here : (r : Bool) → i < length ks → r ≡ t (getD ks i 0) → r ≡ true → some (getD ks i 0) ≡ o
-  unfolding firstThat
-  first-here r h p q = rw (drop-cons ks i 0 h, sym p ∙ q, firstThat) at e
-
-  pub first-next : (r : Bool) → i < length ks → r ≡ t (getD ks i 0) → r ≡ false → firstThat t (drop (i + 1) ks) ≡ o
-  unfolding firstThat
-  first-next r h p q = rw (add-one i) (rw (drop-cons ks i 0 h, sym p ∙ q, firstThat) at e)
-
-  pub first-end : length ks ≤ i → none ≡ o
-  unfolding firstThat
-  first-end h = rw (drop-of-length-le ks {i = i} h) at e
-
--- Where none of the numbers in front passes, the search may start behind them.
-pub first-behind : (t : ℕ → Bool) (js ks : List ℕ) → ((k : ℕ) → Mem k js → t k ≡ false) → firstThat t (js ++ ks) ≡ firstThat t ks
-unfolding firstThat
-first-behind t [] ks n = refl
-first-behind t (j ∷ js) ks n = rw (n j (inl refl)) (first-behind t js ks (λ k p. n k (inr p)))
 
 -- ---- the tests, by what was read
 

@@ -1,8 +1,8 @@
 -- The candidates of a fan as the code asks of them: by marks of the fan's edges, by the edge table, and from a place before which none may join.
 use Prim.Native.Nat.{ℕ}
-use mathlib.Core.List.{List, [], _∷_}
+use mathlib.Core.List.{List}
 use mathlib.Core.Option.{Option, none, some}
-use mathlib.Core.Bool.{Bool, true, false, not, _&&_}
+use mathlib.Core.Bool.{Bool, not, _&&_}
 use lib.ListN.{getD}
 use lib.Dec.{eqb}
 use Rattle.graph.specs.Colored.{colorOf, isColored}
@@ -14,11 +14,6 @@ use Rattle.fan.specs.declared.candidates.Joining.the-variants.{Edge, Not
 abbrev pub optionOf : Joining → Option ℕ
 optionOf (Edge k) = some (k .0)
 optionOf Nothing = none
-
--- The first of these numbers that passes the test.
-unfoldable pub firstThat : (ℕ → Bool) → List ℕ → Option ℕ
-firstThat t [] = none
-firstThat t (k ∷ ks) = elim (t k) [ true ↦ some k | false ↦ firstThat t ks ]
 
 -- Edge k does not have the mark s, and it is coloured in l.
 unfoldable pub mayJoin : List ℕ → List ℕ → ℕ → ℕ → Bool

@@ -7,8 +7,8 @@ use graph::NodeIndex;
 ghost use mathlib.Core.Path.{_≡_};
 ghost use Prim.Native.Nat.{_+_};
 ghost use lib.ListN.{getD, set, drop};
-ghost use Rattle.lists.specs.Search.{firstPlace};
-ghost use Rattle.fan.specs.Candidates.{optionOf, firstThat, mayJoin, joinsMarked};
+ghost use Rattle.lists.specs.Search.{firstPlace, firstThat};
+ghost use Rattle.fan.specs.Candidates.{optionOf, mayJoin, joinsMarked};
 
 // The candidate that joins next.
 pub enum Joining {

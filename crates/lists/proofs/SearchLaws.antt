@@ -5,16 +5,18 @@ use mathlib.Core.List.{List, [], _∷_, _++_}
 use mathlib.Core.Path.{_≡_, refl, ap₂, sym, ap, _∙_}
 use lib.Dec.{eqb, ltb}
 use borrow.Author.Tests.{eqb-true, eq-eqb, lt-ltb, le-ltb, ltb-true}
-use Rattle.lists.proofs.Tests.{and-true, true-and, dec-eq, and-right, and-false, and-assoc, or-false}
+use Rattle.lists.proofs.Tests.{by-test, and-true, true-and, dec-eq, and-right, and-false, and-assoc, or-false}
 use Rattle.lists.specs.Equal.{equal}
 use mathlib.Core.Logic.{inl, inr}
 use native.Mathlib.Omega.{arith}
 use native.Mathlib.Nat.{not-suc-le-zero}
-use lib.ListN.{length, getD, length-append, List·getD-append, take}
-use lib.Seq.{getD-append-seam, take-all}
+use lib.ListN.{length, getD, length-append, List·getD-append, take, drop, drop-of-length-le}
+use lib.Seq.{getD-append-seam, take-all, drop-cons}
 use Rattle.lists.specs.Tabulate.{tabulate}
 use native.Mathlib.Numerals.{add-one}
-use Rattle.lists.specs.Search.{allBelow, any}
+use Rattle.lists.specs.Search.{allBelow, any, firstThat}
+use Rattle.lists.specs.Member.{Mem}
+use mathlib.Core.Option.{Option, none, some, Option·none-ne-some, Option·some-injective}
 
 -- ---- Laws of what specs/Equal defines.
 
@@ -102,3 +104,49 @@ any-true t (suc n) e = go (any-true t n) (t n) refl
     go : (any t n ≡ true → (k : ℕ) × (k < n) × (t k ≡ true)) → (b : Bool) → t n ≡ b → (k : ℕ) × (k < suc n) × (t k ≡ true)
     go rec true p = (n, omega arith, p)
     go rec false p = let r = rec (rw p at e) in (r .0, omega (arith, r .1), r .2)
+
+-- ---- the first that passes a test
+
+-- The search, as the code goes on with it.
+module _ (t : ℕ → Bool) (ks : List ℕ) (i : ℕ) (o : Option ℕ) (e : firstThat t (drop i ks) ≡ o) where
+  pub first-here : (r : Bool) → i < length ks → r ≡ t (getD ks i 0) → r ≡ true → some (getD ks i 0) ≡ o
+  unfolding firstThat
+  first-here r h p q = rw (drop-cons ks i 0 h, sym p ∙ q, firstThat) at e
+
+  pub first-next : (r : Bool) → i < length ks → r ≡ t (getD ks i 0) → r ≡ false → firstThat t (drop (i + 1) ks) ≡ o
+  unfolding firstThat
+  first-next r h p q = rw (add-one i) (rw (drop-cons ks i 0 h, sym p ∙ q, firstThat) at e)
+
+  pub first-end : length ks ≤ i → none ≡ o
+  unfolding firstThat
+  first-end h = rw (drop-of-length-le ks {i = i} h) at e
+
+-- Where none of the numbers in front passes, the search may start behind them.
+pub first-behind : (t : ℕ → Bool) (js ks : List ℕ) → ((k : ℕ) → Mem k js → t k ≡ false) → firstThat t (js ++ ks) ≡ firstThat t ks
+unfolding firstThat
+first-behind t [] ks n = refl
+first-behind t (j ∷ js) ks n = rw (n j (inl refl)) (first-behind t js ks (λ k p. n k (inr p)))
+
+-- What is found passes, and stands among the numbers; where nothing is found, none passes.
+pub first-that-some : (t : ℕ → Bool) (ks : List ℕ) (k : ℕ) → firstThat t ks ≡ some k → Mem k ks × (t k ≡ true)
+unfolding firstThat
+first-that-some t [] k e = absurd (Option·none-ne-some k e)
+first-that-some t (j ∷ ks) k e =
+    by-test (t j)
+    (λ p. let q = Option·some-injective j k (rw (p, firstThat) at e) in (inl (sym q), rw (← q) p))
+    (λ p. let r = first-that-some t ks k (rw (p, firstThat) at e) in (inr (r .0), r .1))
+
+pub first-that-none : (t : ℕ → Bool) (ks : List ℕ) → firstThat t ks ≡ none → (k : ℕ) → Mem k ks → t k ≡ false
+unfolding firstThat
+first-that-none t (j ∷ ks) e k p =
+    by-test (t j)
+    (λ q. absurd (Option·none-ne-some j (sym (rw (q, firstThat) at e))))
+    (λ q. elim p [ inl z ↦ rw z q | inr z ↦ first-that-none t ks (rw (q, firstThat) at e) k z ])
+
+-- Two tests that agree on the numbers find the same.
+pub first-that-same : (t s : ℕ → Bool) (ks : List ℕ) → ((k : ℕ) → Mem k ks → t k ≡ s k) → firstThat t ks ≡ firstThat s ks
+unfolding firstThat
+first-that-same t s [] same = refl
+first-that-same t s (k ∷ ks) same = by-test (s k)
+    (λ p. rw (same k (inl refl) ∙ p, p, firstThat))
+    (λ p. rw (same k (inl refl) ∙ p, p, firstThat) (first-that-same t s ks (λ j q. same j (inr q))))

@@ -13,6 +13,8 @@ use lib.Dec.{eqb}
 use borrow.Author.Tests.{eq-eqb, ne-eqb}
 use Rattle.lists.proofs.Tests.{by-test, dec-eq}
 use Rattle.lists.specs.Member.{Mem, elem}
+use Rattle.lists.specs.Search.{firstThat}
+use Rattle.lists.proofs.SearchLaws.{first-that-same, first-behind}
 use Rattle.graph.specs.Edges.{firstEnd, secondEnd, farEnd, edgesAt, degree}
 use Rattle.graph.proofs.EdgeLaws.{far-first, edge-at, at-edge}
 use Rattle.graph.specs.Color.{noColor}
@@ -27,8 +29,8 @@ use Rattle.edge_table.specs.EdgeTable.{isEmpty}
 use Rattle.graph.specs.declared.EdgeIndex.{EdgeIndex}
 use Rattle.fan.specs.declared.candidates.Joining.{Joining}
 use Rattle.fan.specs.declared.candidates.Joining.the-variants.{Edge, Nothing}
-use Rattle.fan.specs.Candidates.{optionOf, firstThat, mayJoin, joinsMarked}
-use Rattle.fan.proofs.CandidateLaws.{Passed, first-behind}
+use Rattle.fan.specs.Candidates.{optionOf, mayJoin, joinsMarked}
+use Rattle.fan.proofs.CandidateLaws.{Passed}
 use Rattle.misra_gries.specs.Step.{FanReady}
 
 -- ---- an edge takes the mark
@@ -69,11 +71,8 @@ module _ (l T M : List ℕ) (s x : ℕ) (ks fan : List ℕ) (marks : Marks M s f
       (λ e. rw e (by-test (isColored l k) (λ t. rw (t, says (colorOf l k) (is-colored-true l k t))) (λ t. rw t))))
 
   first-marked : (near : List ℕ) → firstThat (joinsMarked l T M s x) near ≡ firstJoining l ks fan near
-  unfolding firstThat firstJoining
-  first-marked [] = refl
-  first-marked (k ∷ near) = by-test (joins l ks fan k)
-      (λ t. rw (joins-marked k ∙ t, t, firstThat, firstJoining))
-      (λ t. rw (joins-marked k ∙ t, t, firstThat, firstJoining) (first-marked near))
+  unfolding firstJoining
+  first-marked near = first-that-same (joinsMarked l T M s x) (joins l ks fan) near (λ k p. joins-marked k)
 
   -- Also where it starts at lo.
   first-from : (near : List ℕ) (lo : ℕ) → Passed l M s near lo → firstThat (joinsMarked l T M s x) (drop lo near) ≡ firstJoining l ks fan near

@@ -6,7 +6,7 @@ use mathlib.Core.List.{[], _∷_, List}
 use native.Mathlib.Omega.{arith}
 use lib.ListN.{take, replicate, length, length-replicate, length-take, getD}
 use Rattle.lists.specs.Member.{elem}
-use Rattle.lists.specs.Search.{allBelow, any, firstPlace}
+use Rattle.lists.specs.Search.{allBelow, any, firstPlace, firstThat}
 use Rattle.graph.specs.Edges.{firstEnd, secondEnd, isLoop, farEnd, secondAt, firstEdges, secondEdges, edgesAt, degree, edgeCount}
 use Rattle.graph.specs.Check.{firstRefusal, graphChecks}
 use Rattle.graph.specs.Color.{smallestFrom, smallestFree, noColor, daysOf, colored}
@@ -53,7 +53,7 @@ pub runs :
     × (take 1 (held 4 listP13 1) ≡ 0 ∷ [])
     × (take 3 (held 4 listP13 3) ≡ 0 ∷ 1 ∷ 2 ∷ [])
     × (take 4 (held 4 listP13 4) ≡ 2 ∷ 1 ∷ 0 ∷ 2 ∷ [])
-unfolding held heldAfter stepHeld step find rotate firstFreePlace firstPlace exchange swap path fanOf fanFrom lastOf firstJoining joins elem store smallestFreeAt smallestFree smallestFrom coloredAmong isFree edgeOfColor isColored colorOf edgesAt firstEdges secondEdges secondAt isLoop farEnd firstEnd secondEnd
+unfolding held heldAfter stepHeld step find rotate firstFreePlace firstPlace firstThat exchange swap path fanOf fanFrom lastOf firstJoining joins elem store smallestFreeAt smallestFree smallestFrom coloredAmong isFree edgeOfColor isColored colorOf edgesAt firstEdges secondEdges secondAt isLoop farEnd firstEnd secondEnd
 runs = (refl, refl, refl, refl)
 
 -- ---- D + 1 colours are needed

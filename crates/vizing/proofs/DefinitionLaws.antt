@@ -12,6 +12,7 @@ use borrow.Author.Tests.{eqb-true, eqb-false, not-true}
 use Rattle.lists.proofs.Tests.{by-test, and-true, true-and}
 use Rattle.lists.specs.Member.{Mem, elem}
 use Rattle.lists.proofs.MemberLaws.{elem-false, not-mem-elem}
+use Rattle.lists.proofs.SearchLaws.{first-that-some, first-that-none}
 use Rattle.graph.proofs.ColorLaws.{NoneHas, color-set-other, is-colored-true, colored-true}
 use Rattle.graph.specs.Color.{noColor}
 use Rattle.graph.specs.Colored.{colorOf, isColored}
@@ -33,21 +34,11 @@ some-or-none (some k) = inr (k, refl)
 
 pub edge-of-color-some : (l : List ℕ) (c : ℕ) (ks : List ℕ) (k : ℕ) → edgeOfColor l c ks ≡ some k → Mem k ks × (colorOf l k ≡ c)
 unfolding edgeOfColor
-edge-of-color-some l c [] k e = absurd (none-not-some none k refl e)
-edge-of-color-some l c (j ∷ ks) k e =
-    by-test (eqb (colorOf l j) c)
-    (λ t. let q = some-injective j k (rw (t, edgeOfColor) at e) in (inl (sym q), rw (← q) (eqb-true (colorOf l j) c t)))
-    (λ t. let r = edge-of-color-some l c ks k (rw (t, edgeOfColor) at e) in (inr (r .0), r .1))
+edge-of-color-some l c ks k e = let r = first-that-some (λ j. eqb (colorOf l j) c) ks k e in (r .0, eqb-true (colorOf l k) c (r .1))
 
 pub edge-of-color-none : (l : List ℕ) (c : ℕ) (ks : List ℕ) → edgeOfColor l c ks ≡ none → NoneHas l ks c
 unfolding edgeOfColor
-edge-of-color-none l c (j ∷ ks) e k p z =
-    by-test (eqb (colorOf l j) c)
-    (λ t. none-not-some (some j) j (rw (t, edgeOfColor) at e) refl)
-    (λ t. elim p [
-      | inl q ↦ eqb-false (colorOf l j) c t (rw q at z)
-      | inr q ↦ edge-of-color-none l c ks (rw (t, edgeOfColor) at e) k q z
-    ])
+edge-of-color-none l c ks e k p = eqb-false (colorOf l k) c (first-that-none (λ j. eqb (colorOf l j) c) ks e k p)
 
 pub none-has-none : (l : List ℕ) (c : ℕ) (ks : List ℕ) → NoneHas l ks c → edgeOfColor l c ks ≡ none
 none-has-none l c ks n = elim (some-or-none (edgeOfColor l c ks)) [
@@ -101,21 +92,11 @@ false-joins l ks fan k n = by-test (joins l ks fan k) (λ t. absurd (n (joins-tr
 
 pub first-joining-some : (l ks fan candidates : List ℕ) (k : ℕ) → firstJoining l ks fan candidates ≡ some k → Mem k candidates × Joins l ks fan k
 unfolding firstJoining
-first-joining-some l ks fan [] k e = absurd (none-not-some none k refl e)
-first-joining-some l ks fan (j ∷ candidates) k e =
-    by-test (joins l ks fan j)
-    (λ t. let q = some-injective j k (rw (t, firstJoining) at e) in (inl (sym q), subst (Joins l ks fan) q (joins-true l ks fan j t)))
-    (λ t. let r = first-joining-some l ks fan candidates k (rw (t, firstJoining) at e) in (inr (r .0), r .1))
+first-joining-some l ks fan candidates k e = let r = first-that-some (joins l ks fan) candidates k e in (r .0, joins-true l ks fan k (r .1))
 
 pub first-joining-none : (l ks fan candidates : List ℕ) → firstJoining l ks fan candidates ≡ none → (k : ℕ) → Mem k candidates → Joins l ks fan k → ⊥
 unfolding firstJoining
-first-joining-none l ks fan (j ∷ candidates) e k p joining =
-    by-test (joins l ks fan j)
-    (λ t. none-not-some (some j) j (rw (t, firstJoining) at e) refl)
-    (λ t. elim p [
-      | inl q ↦ joins-false l ks fan j t (subst (Joins l ks fan) q joining)
-      | inr q ↦ first-joining-none l ks fan candidates (rw (t, firstJoining) at e) k q joining
-    ])
+first-joining-none l ks fan candidates e k p = joins-false l ks fan k (first-that-none (joins l ks fan) candidates e k p)
 
 -- ---- storing
 

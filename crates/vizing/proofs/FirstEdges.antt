@@ -2,6 +2,7 @@
 use Prim.Native.Nat.{ℕ, zero, suc, _≤_, _<_, _+_, _*_}
 use mathlib.Core.Path.{_≡_, ap, _∙_, refl, sym}
 use mathlib.Core.Logic.{inl, inr, _≢_}
+use mathlib.Core.Bool.{Bool, false}
 use mathlib.Core.List.{List, [], _∷_, _++_, map}
 use native.Mathlib.Omega.{arith}
 use native.Mathlib.Decide.{decLt}
@@ -9,6 +10,8 @@ use lib.ListN.{length, length-replicate, take}
 use Rattle.lists.proofs.Tests.{by-test}
 use Rattle.lists.specs.Member.{Mem, Nodup}
 use Rattle.lists.proofs.MemberLaws.{nodup-bound}
+use Rattle.lists.specs.Search.{firstThat}
+use Rattle.lists.proofs.SearchLaws.{first-that-same}
 use Rattle.graph.specs.Edges.{firstEnd, secondEnd, farEnd, edgesAt, edgeCount, isLoop, secondAt, firstEdges, secondEdges}
 use Rattle.graph.proofs.EdgeLaws.{edges-at-nodup}
 use Rattle.graph.specs.Color.{noColor, smallestFree}
@@ -19,7 +22,7 @@ use Rattle.graph.proofs.ColorLaws.{colored-inside, color-replicate, colored-edg
 use Rattle.vizing.proofs.DefinitionLaws.{some-or-none, edge-of-color-some, first-joining-some, length-store, color-store-other, false-joins}
 use lib.Seq.{getD-take, length-take-le}
 use lib.Dec.{eqb}
-use borrow.Author.Tests.{eqb-true}
+use borrow.Author.Tests.{eqb-true, ne-eqb}
 
 -- ---- The step of an edge changes colours of that edge and of coloured edges only, so the edges after it stay without a colour.
 
@@ -137,15 +140,18 @@ module _ (ends : List ℕ) (m n : ℕ) where
 
 -- ---- a search over a node's edges sees only the coloured ones
 
-edge-of-color-colored : (l : List ℕ) (c : ℕ) (ks : List ℕ) → c ≢ noColor → edgeOfColor l c ks ≡ edgeOfColor l c (coloredAmong l ks)
-unfolding edgeOfColor coloredAmong
-edge-of-color-colored l c [] nc = refl
-edge-of-color-colored l c (k ∷ ks) nc =
+-- Where only coloured edges pass the test.
+first-colored : (t : ℕ → Bool) (l ks : List ℕ) → ((k : ℕ) → isColored l k ≡ false → t k ≡ false) → firstThat t ks ≡ firstThat t (coloredAmong l ks)
+unfolding firstThat coloredAmong
+first-colored t l [] only = refl
+first-colored t l (k ∷ ks) only =
     by-test (isColored l k)
-    (λ t. by-test (eqb (colorOf l k) c) (λ s. rw (t, edgeOfColor, s)) (λ s. rw (t, edgeOfColor, s) (edge-of-color-colored l c ks nc)))
-    (λ t. by-test (eqb (colorOf l k) c)
-    (λ s. absurd (nc (sym (eqb-true (colorOf l k) c s) ∙ is-colored-false l k t)))
-    (λ s. rw (t, edgeOfColor, s) (edge-of-color-colored l c ks nc)))
+    (λ p. by-test (t k) (λ s. rw (p, firstThat, s)) (λ s. rw (p, firstThat, s) (first-colored t l ks only)))
+    (λ p. rw (p, firstThat, only k p) (first-colored t l ks only))
+
+edge-of-color-colored : (l : List ℕ) (c : ℕ) (ks : List ℕ) → c ≢ noColor → edgeOfColor l c ks ≡ edgeOfColor l c (coloredAmong l ks)
+unfolding edgeOfColor
+edge-of-color-colored l c ks nc = first-colored (λ k. eqb (colorOf l k) c) l ks (λ k p. ne-eqb (colorOf l k) c (λ e. nc (sym e ∙ is-colored-false l k p)))
 
 joins-colored : (l ks fan : List ℕ) (k : ℕ) → joins l ks fan k ≡ joins l (coloredAmong l ks) fan k
 unfolding joins isFree
@@ -155,14 +161,10 @@ joins-colored l ks fan k =
     (λ t. rw t)
 
 first-joining-colored : (l ks fan candidates : List ℕ) → firstJoining l ks fan candidates ≡ firstJoining l (coloredAmong l ks) fan (coloredAmong l candidates)
-unfolding firstJoining coloredAmong
-first-joining-colored l ks fan [] = refl
-first-joining-colored l ks fan (k ∷ candidates) =
-    by-test (isColored l k)
-    (λ t. by-test (joins l (coloredAmong l ks) fan k)
-    (λ s. rw (t, firstJoining, joins-colored l ks fan k, s))
-    (λ s. rw (t, firstJoining, joins-colored l ks fan k, s) (first-joining-colored l ks fan candidates)))
-    (λ t. rw (t, firstJoining, false-joins l ks fan k (λ j. j .1 (is-colored-false l k t))) (first-joining-colored l ks fan candidates))
+unfolding firstJoining
+first-joining-colored l ks fan candidates =
+    first-colored (joins l ks fan) l candidates (λ k p. false-joins l ks fan k (λ j. j .1 (is-colored-false l k p)))
+    ∙ first-that-same (joins l ks fan) (joins l (coloredAmong l ks) fan) (coloredAmong l candidates) (λ k p. joins-colored l ks fan k)
 
 -- So two lists with the same coloured edges give the same.
 module _ (l js ks : List ℕ) (same : coloredAmong l js ≡ coloredAmong l ks) where

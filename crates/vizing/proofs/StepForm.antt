@@ -13,6 +13,7 @@ use lib.Dec.{eqb}
 use Rattle.lists.proofs.Tests.{by-test}
 use Rattle.lists.specs.Member.{elem}
 use Rattle.lists.specs.Search.{firstPlace}
+use Rattle.lists.proofs.SearchLaws.{first-that-same}
 use Rattle.graph.specs.Edges.{firstEnd, secondEnd, farEnd, edgesAt}
 use Rattle.graph.proofs.EdgeLaws.{far-first}
 use Rattle.graph.specs.Colored.{colorOf, smallestFreeAt}
@@ -78,10 +79,7 @@ module _ (l ks fan fan′ : List ℕ) (same : (j : ℕ) → elem j fan ≡ elem 
 
   first-joining-members : (candidates : List ℕ) → firstJoining l ks fan candidates ≡ firstJoining l ks fan′ candidates
   unfolding firstJoining
-  first-joining-members [] = refl
-  first-joining-members (k ∷ candidates) = by-test (joins l ks fan′ k)
-      (λ t. rw (joins-same k ∙ t, t, firstJoining))
-      (λ t. rw (joins-same k ∙ t, t, firstJoining) (first-joining-members candidates))
+  first-joining-members candidates = first-that-same (joins l ks fan) (joins l ks fan′) candidates (λ k p. joins-same k)
 
 elem-last : (j k : ℕ) (fan : List ℕ) → elem j (fan ++ (k ∷ [])) ≡ eqb j k || elem j fan
 unfolding elem

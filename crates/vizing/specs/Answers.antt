@@ -4,7 +4,7 @@ use mathlib.Core.List.{List, [], _∷_}
 use mathlib.Core.Path.{_≡_, refl}
 use Rattle.lists.specs.Member.{elem}
 use Rattle.lists.specs.Equal.{equal}
-use Rattle.lists.specs.Search.{any, allBelow, firstPlace}
+use Rattle.lists.specs.Search.{any, allBelow, firstPlace, firstThat}
 use Rattle.graph.specs.Report.{accepted, refused}
 use Rattle.graph.specs.Rows.{Row, sameReport, holds, allHold}
 use Rattle.graph.specs.Check.{firstRefusal, answered, written, graphChecks}
@@ -30,7 +30,7 @@ rows =
     ∷ []
 
 pub examples : allHold rows ≡ true
-unfolding allHold rows holds sameReport equal colored daysOf graphChecks firstRefusal answered written allBelow elem any firstEnd secondEnd isLoop farEnd secondAt firstEdges secondEdges edgesAt smallestFree smallestFrom colorOf isColored edgeOfColor isFree coloredAmong smallestFreeAt store joins firstJoining lastOf fanFrom fanOf path swap exchange firstPlace firstFreePlace rotate greatestColor find step stepHeld heldAfter held hasLoop sameEnds hasDoubleEdge misraGriesChecks misraGries
+unfolding allHold rows holds sameReport equal colored daysOf graphChecks firstRefusal answered written allBelow elem any firstEnd secondEnd isLoop farEnd secondAt firstEdges secondEdges edgesAt smallestFree smallestFrom colorOf isColored edgeOfColor isFree coloredAmong smallestFreeAt store joins firstJoining lastOf fanFrom fanOf path swap exchange firstPlace firstThat firstFreePlace rotate greatestColor find step stepHeld heldAfter held hasLoop sameEnds hasDoubleEdge misraGriesChecks misraGries
 examples = refl
 
 -- The tally of P13's run after its last edge: 4 edges coloured, the greatest colour 2.
@@ -38,5 +38,5 @@ abbrev tallyP13 : Tally
 tallyP13 = heldAfter (0 ∷ 1 ∷ 1 ∷ 2 ∷ 0 ∷ 2 ∷ 2 ∷ 3 ∷ []) 4 4 4 .tally
 
 pub tally-example : (tallyP13 .edges ≡ 4) × (tallyP13 .greatest ≡ 2)
-unfolding elem firstEnd secondEnd isLoop farEnd secondAt firstEdges secondEdges edgesAt smallestFree smallestFrom colorOf isColored edgeOfColor isFree coloredAmong smallestFreeAt store joins firstJoining lastOf fanFrom fanOf path swap exchange firstPlace firstFreePlace rotate greatestColor find step stepHeld heldAfter
+unfolding elem firstEnd secondEnd isLoop farEnd secondAt firstEdges secondEdges edgesAt smallestFree smallestFrom colorOf isColored edgeOfColor isFree coloredAmong smallestFreeAt store joins firstJoining lastOf fanFrom fanOf path swap exchange firstPlace firstThat firstFreePlace rotate greatestColor find step stepHeld heldAfter
 tally-example = (refl, refl)

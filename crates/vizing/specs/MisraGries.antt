@@ -6,7 +6,7 @@ use mathlib.Core.Bool.{Bool, true, false, not, _&&_, _||_, cond}
 use lib.ListN.{length, getD, set, take, drop, replicate}
 use lib.Dec.{eqb, ltb}
 use Rattle.lists.specs.Member.{elem}
-use Rattle.lists.specs.Search.{any, firstPlace}
+use Rattle.lists.specs.Search.{any, firstPlace, firstThat}
 use Rattle.graph.specs.Edges.{edgeCount, firstEnd, secondEnd, isLoop, farEnd, edgesAt}
 use Rattle.graph.specs.Check.{Check, _gives_, graphChecks, lengthCheck}
 use Rattle.graph.specs.Color.{Outcome, colored, noColor}
@@ -16,8 +16,7 @@ use Rattle.graph.specs.Colored.{colorOf, isColored, smallestFreeAt}
 
 -- The first of these edges that has colour c.
 unfoldable pub edgeOfColor : List ℕ → ℕ → List ℕ → Option ℕ
-edgeOfColor l c [] = none
-edgeOfColor l c (k ∷ ks) = elim (eqb (colorOf l k) c) [ true ↦ some k | false ↦ edgeOfColor l c ks ]
+edgeOfColor l c ks = firstThat (λ k. eqb (colorOf l k) c) ks
 
 abbrev pub isNone : Option ℕ → Bool
 isNone none = true
@@ -41,8 +40,7 @@ joins l ks fan k = not (elem k fan) && (isColored l k && isFree l ks (colorOf l 
 
 -- "the first candidate that" does
 unfoldable pub firstJoining : List ℕ → List ℕ → List ℕ → List ℕ → Option ℕ
-firstJoining l ks fan [] = none
-firstJoining l ks fan (k ∷ candidates) = elim (joins l ks fan k) [ true ↦ some k | false ↦ firstJoining l ks fan candidates ]
+firstJoining l ks fan candidates = firstThat (joins l ks fan) candidates
 
 -- "the fan's last edge"
 unfoldable pub lastOf : List ℕ → ℕ

@@ -4,8 +4,9 @@ use Prim.Native.Nat.{_-_}
 use mathlib.Core.Path.{_≡_}
 use lib.ListN.{length, drop}
 use borrow.Author.Needs.{needs}
-use Rattle.fan.specs.Candidates.{firstThat, joinsMarked}
-use Rattle.fan.proofs.CandidateLaws.{first-here, first-next, first-end}
+use Rattle.lists.specs.Search.{firstThat}
+use Rattle.lists.proofs.SearchLaws.{first-here, first-next, first-end}
+use Rattle.fan.specs.Candidates.{joinsMarked}
 use Rattle.fan.proofs.candidates.first_joining.Statement.{statement}
 use Rattle.fan.proofs.candidates.first_joining.Tie as tie
 
