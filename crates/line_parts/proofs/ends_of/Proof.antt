@@ -1,8 +1,8 @@
 -- `ends_of` meets its contract: the ends are compared.
 use borrow.Author.Needs.{needs}
-use Rattle.independent_set.proofs.EdgesLaws.{ends-rise, ends-fall}
-use Rattle.independent_set.proofs.edges.ends_of.Statement.{statement}
-use Rattle.independent_set.proofs.edges.ends_of.Tie as tie
+use Rattle.line_parts.proofs.PartsLaws.{ends-rise, ends-fall}
+use Rattle.line_parts.proofs.ends_of.Statement.{statement}
+use Rattle.line_parts.proofs.ends_of.Tie as tie
 
 returns : tie.Need-returns
 returns c = ends-rise _ _ _ _ (c .before .before .before .before .end-at .ensures) (c .before .before .before .end-at2 .ensures) (c .if1 .taken)

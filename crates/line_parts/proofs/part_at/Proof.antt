@@ -1,8 +1,8 @@
 -- `part_at` meets its contract: the part at the higher end, or at the lower unless the edge is a loop.
 use borrow.Author.Needs.{needs}
-use Rattle.independent_set.proofs.NeighborsLaws.{part-higher, part-lower, part-none}
-use Rattle.independent_set.proofs.edges.part_at.Statement.{statement}
-use Rattle.independent_set.proofs.edges.part_at.Tie as tie
+use Rattle.line_parts.proofs.PartsLaws.{part-higher, part-lower, part-none}
+use Rattle.line_parts.proofs.part_at.Statement.{statement}
+use Rattle.line_parts.proofs.part_at.Tie as tie
 
 returns : tie.Need-returns
 returns c = part-higher _ _ _ _ _ _ _ _ (c .before .before .before .ends-of .ensures .0) (c .before .before .before .ends-of .ensures .1) (c .before .before .if1 .taken) (c .before .edges-at .ensures .0) (c .part-of .ensures)

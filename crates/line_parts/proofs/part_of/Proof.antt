@@ -1,8 +1,8 @@
 -- `part_of` meets its contract: the edges are cut where the edge stands.
 use borrow.Author.Needs.{needs}
-use Rattle.independent_set.proofs.EdgesLaws.{cut-after, cut-none, cut-before, cut-inside}
-use Rattle.independent_set.proofs.edges.part_of.Statement.{statement}
-use Rattle.independent_set.proofs.edges.part_of.Tie as tie
+use Rattle.line_parts.proofs.PartsLaws.{cut-after, cut-none, cut-before, cut-inside}
+use Rattle.line_parts.proofs.part_of.Statement.{statement}
+use Rattle.line_parts.proofs.part_of.Tie as tie
 
 returns : tie.Need-returns
 returns c = cut-after _ _ _ _ (c .before .before .before .place-of .ensures) (c .before .before .if1 .taken)

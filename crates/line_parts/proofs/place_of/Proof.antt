@@ -5,9 +5,9 @@ use mathlib.Core.Path.{_≡_}
 use lib.ListN.{length, drop}
 use borrow.Author.Needs.{needs}
 use Rattle.greedy.specs.IndependentSet.{placeOf}
-use Rattle.independent_set.proofs.EdgesLaws.{place-start, place-here, place-more, place-end}
-use Rattle.independent_set.proofs.edges.place_of.Statement.{statement}
-use Rattle.independent_set.proofs.edges.place_of.Tie as tie
+use Rattle.line_parts.proofs.PartsLaws.{place-start, place-here, place-more, place-end}
+use Rattle.line_parts.proofs.place_of.Statement.{statement}
+use Rattle.line_parts.proofs.place_of.Tie as tie
 
 abbrev Inv-loop : tie.InvT-loop
 Inv-loop edges edge i₀ i = (i ≤ length edges) × (placeOf (edge .0) (drop i edges) + i ≡ placeOf (edge .0) edges)

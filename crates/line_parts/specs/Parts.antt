@@ -1,13 +1,15 @@
--- Putting off the neighbours of an item, as the code goes over them: of a node the far ends of its edges, of an edge the parts of the edges at its ends.
+-- The parts of the edges that share an end with an edge, in the order of the line list.
 use Prim.Native.Nat.{ℕ, _%_}
-use mathlib.Core.Bool.{cond}
+use mathlib.Core.Bool.{Bool, true, false, cond}
 use mathlib.Core.List.{List, []}
 use lib.Dec.{eqb, ltb}
 use Rattle.graph.specs.Edges.{isLoop}
-use Rattle.line_graph.specs.LineNeighbors.{higherEnd, lowerEnd}
-use Rattle.independent_set.specs.Edges.{partIn}
+use Rattle.line_graph.specs.LineNeighbors.{beforeIn, afterIn, higherEnd, lowerEnd}
 
--- ---- the parts of the edges that share an end with an edge
+-- The numbers after k, or those before it.
+unfoldable pub partIn : Bool → ℕ → List ℕ → List ℕ
+partIn true k l = afterIn k l
+partIn false k l = beforeIn k l
 
 -- The part of a turn, given the edges at each node: after edge k at its higher end, then at its lower; then before it, the same way. A loop has one end only.
 unfoldable pub partAt : (ℕ → List ℕ) → List ℕ → ℕ → ℕ → List ℕ
