@@ -20,15 +20,15 @@ use Rattle.vizing.proofs.Run.{run-keeps}
 use Rattle.vizing.proofs.Greatest.{greatest-step}
 use Rattle.vizing.proofs.Tally.{tally-same, tally-edges, tally-greatest}
 use Rattle.vizing.specs.MisraGries as definition
-use Rattle.edge_table.specs.TableOf.{FitsTable}
-use Rattle.edge_table.proofs.TableOfLaws.{start-table}
+use Rattle.repaint.specs.TableOf.{FitsTable}
+use Rattle.repaint.proofs.TableOfLaws.{start-table}
 use Rattle.misra_gries.specs.declared.tally.Tally.{Tally}
 use Rattle.misra_gries.proofs.Range.{palette}
 use Rattle.misra_gries.specs.Step.{InRange, Ready, topColor}
 use Rattle.misra_gries.specs.Tally.{tallyOf, Tallied}
 use Rattle.misra_gries.proofs.Days.{days-read}
 use Rattle.edge_table.specs.EdgeTable.{noEdge}
-use Rattle.edge_table.proofs.EdgeTableLaws.{getD-same}
+use Rattle.repaint.proofs.TableOfLaws.{getD-same}
 use Rattle.misra_gries.specs.Run.{Running}
 
 pub run-kept : (n : ℕ) (ends : List ℕ) → Admitted n ends → (k : ℕ) → k ≤ edgeCount ends → Invariant ends (edgeCount ends) (InRange n ends) k (held n ends k)

@@ -7,7 +7,7 @@ use Rattle.graph.specs.Edges.{edgeCount}
 use Rattle.graph.specs.Stretch.{Table}
 use Rattle.vizing.specs.MisraGries.{heldAfter, held}
 use Rattle.vizing.specs.Demand3.{Admitted}
-use Rattle.edge_table.specs.TableOf.{TableOf}
+use Rattle.repaint.specs.TableOf.{TableOf}
 use Rattle.misra_gries.specs.declared.tally.Tally.{Tally}
 use Rattle.misra_gries.specs.Tally.{tallyOf}
 

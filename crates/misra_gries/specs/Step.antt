@@ -12,8 +12,8 @@ use Rattle.graph.specs.Color.{noColor}
 use Rattle.vizing.specs.MisraGries.{fanOf, path, Found, find, step}
 use Rattle.vizing.specs.Demand3.{Admitted, maxDegree}
 use Rattle.vizing.specs.Step.{Invariant}
-use Rattle.edge_table.specs.TableOf.{TableOf}
-use Rattle.edge_table.specs.Repaint.{Repaintable}
+use Rattle.repaint.specs.TableOf.{TableOf}
+use Rattle.repaint.specs.Repaint.{Repaintable}
 use Rattle.edge_table.specs.StepRepaint.{exchangedColors}
 
 -- The colours from 0 to D.

@@ -4,13 +4,12 @@ ghost use Prim.Native.Nat.{_≤_};
 ghost use lib.ListN.{length, drop};
 ghost use Rattle.graph.specs.Edges.{edgeCount};
 ghost use Rattle.vizing.specs.MisraGries.{path, exchange, store};
-ghost use Rattle.edge_table.specs.TableOf.{TableOf};
-ghost use Rattle.edge_table.specs.Repaint.{Repaintable};
+ghost use Rattle.repaint.specs.TableOf.{TableOf};
+ghost use Rattle.repaint.specs.Repaint.{Repaintable};
 ghost use Rattle.edge_table.specs.StepRepaint.{rotatedColors};
 ghost use Rattle.misra_gries.specs.Step.{Ready, Stepped, Exchanging, Turning, Turned};
 use crate::grow::grow;
 use edge_table::is_free;
-use edge_table::repaint;
 use edge_table::smallest_free;
 use fan::follow;
 use fan::places_to;
@@ -22,6 +21,7 @@ use graph::NodeIndex;
 use graph::edges_at;
 use graph::end_at;
 use graph::far_end;
+use repaint::repaint;
 
 // The path from the node along d, c, d and so on exchanges c and d; the answer is the number of its edges.
 fn exchange_edges(
