@@ -1,5 +1,3 @@
--- The edge table: what its functions answer and leave, and when it is the table of a working list.
+-- The edge table: what its functions answer. The new colours of a path and of a fan.
 pub mod EdgeTable
-pub mod TableOf
-pub mod Repaint
 pub mod StepRepaint

@@ -1,15 +1,13 @@
 // The edge table: beside a working list of colours, the edge of each colour at each node. Every function is total: what lies
-// outside a slice reads as its default and takes no store.
+// outside a slice reads as its default.
 use graph::EdgeIndex;
 
 mod lookup;
-mod update;
 
+pub use lookup::color_of;
 pub use lookup::edge_of_color;
 pub use lookup::is_free;
 pub use lookup::smallest_free;
-pub use update::color_of;
-pub use update::repaint;
 
 // The table's sizes: a row for each colour, in it a place for each node, so that the few colours of a sparse graph stand close together.
 // A simple graph of so many nodes has no degree of so many colours, so one is always free.
@@ -30,8 +28,8 @@ pub enum EdgeOfColor {
 }
 
 // What a place of the table holds: an edge's number, or none.
-struct Entry(u16);
+pub struct Entry(pub u16);
 
 impl Entry {
-    const NONE: u16 = 65535;
+    pub const NONE: u16 = 65535;
 }

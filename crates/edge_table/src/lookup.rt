@@ -1,4 +1,4 @@
-// What the table says of a node and a colour.
+// What the table says of a node and a colour, and the working list of an edge.
 use crate::EdgeOfColor;
 use crate::EdgeTable;
 use crate::Entry;
@@ -6,6 +6,7 @@ use graph::Color;
 use graph::EdgeIndex;
 use graph::NodeIndex;
 ghost use mathlib.Core.Path.{_≡_};
+ghost use Rattle.graph.specs.Colored.{colorOf};
 ghost use Rattle.edge_table.specs.EdgeTable.{optionOf, entryAt, tableEdge, isEmpty, smallestEmpty};
 
 // A node without a place must not be read from the next row.
@@ -54,4 +55,16 @@ pub fn smallest_free(table: &[u16], node: NodeIndex) -> Color
         c += 1;
     }
     Color(c as u16)
+}
+
+// What the working list holds for an edge; none beyond it.
+pub fn color_of(work: &[u16], edge: EdgeIndex) -> Color
+    ensures answer { λ r. ⌜ r .0 ≡ colorOf (now (work .entry)) (edge .0) ⌝ }
+{
+    let k = edge.0 as usize;
+    if k < work.len() {
+        Color(work[k])
+    } else {
+        Color::none()
+    }
 }

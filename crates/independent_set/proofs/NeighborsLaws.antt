@@ -9,7 +9,7 @@ use native.Mathlib.Omega.{arith}
 use lib.ListN.{length, getD, take}
 use lib.Seq.{take-all}
 use lib.Dec.{eqb, ltb}
-use borrow.Author.Tests.{eq-eqb, ne-eqb, eqb-true}
+use borrow.Author.Tests.{eqb-true}
 use Rattle.lists.proofs.Tests.{by-test}
 use Rattle.lists.specs.Member.{Mem}
 use Rattle.lists.proofs.MemberLaws.{mem-map, mem-getD}
@@ -21,6 +21,8 @@ use Rattle.graph.specs.Stretch.{stretch}
 use Rattle.line_list.specs.LineNeighbors.{laterAt, earlierAt, higherEnd, lowerEnd, lineNeighbors}
 use Rattle.line_list.proofs.LineNeighborLaws.{loop-neighbors, apart-neighbors}
 use Rattle.line_list.proofs.PairLaws.{before-member, after-member}
+use Rattle.line_parts.specs.Parts.{partIn, partAt}
+use Rattle.line_parts.proofs.PartsLaws.{ends-cases}
 use Rattle.greedy.proofs.TurnLaws.{edge-neighbors}
 use Rattle.greedy.specs.IndependentSet.{Lists, putOff, putOffAll}
 use Rattle.independent_set.specs.declared.items.Items.{Items}
@@ -28,9 +30,7 @@ use Rattle.independent_set.specs.Items.{neighborsOf, Tabled}
 use Rattle.independent_set.proofs.ItemsLaws.{nodes-count, nodes-neighbors, edges-count, edges-neighbors}
 use Rattle.independent_set.specs.Listing.{Held, listsAt}
 use Rattle.independent_set.proofs.ListingLaws.{lists-held}
-use Rattle.independent_set.specs.Edges.{partIn}
 use Rattle.independent_set.proofs.EdgesLaws.{put-off-append}
-use Rattle.independent_set.specs.Neighbors.{partAt}
 
 -- ---- the neighbours of a node
 
@@ -72,35 +72,9 @@ unfoldable pub partsTo : (ℕ → List ℕ) → List ℕ → ℕ → ℕ → Lis
 partsTo at ends k zero = []
 partsTo at ends k (suc turn) = partsTo at ends k turn ++ reverse (partAt at ends k turn)
 
-ends-cases : (P : ℕ → ℕ → Type 0) (ends : List ℕ) (k : ℕ) → P (secondEnd ends k) (firstEnd ends k) → P (firstEnd ends k) (secondEnd ends k) → P (higherEnd ends k) (lowerEnd ends k)
-unfolding higherEnd lowerEnd
-ends-cases P ends k x y = by-test (ltb (firstEnd ends k) (secondEnd ends k)) (λ t. rw t x) (λ t. rw t y)
-
-same-loop : (ends : List ℕ) (k : ℕ) → higherEnd ends k ≡ lowerEnd ends k → isLoop ends k ≡ true
-unfolding isLoop
-same-loop ends k = ends-cases (λ (a b : ℕ). a ≡ b → isLoop ends k ≡ true) ends k (λ e. eq-eqb (firstEnd ends k) (secondEnd ends k) (sym e)) (λ e. eq-eqb (firstEnd ends k) (secondEnd ends k) e)
-
-other-apart : (ends : List ℕ) (k : ℕ) → (higherEnd ends k ≡ lowerEnd ends k → ⊥) → isLoop ends k ≡ false
-unfolding isLoop
-other-apart ends k = ends-cases (λ (a b : ℕ). (a ≡ b → ⊥) → isLoop ends k ≡ false) ends k (λ d. ne-eqb (firstEnd ends k) (secondEnd ends k) (λ e. d (sym e))) (λ d. ne-eqb (firstEnd ends k) (secondEnd ends k) d)
-
 loop-higher : (ends : List ℕ) (k : ℕ) → isLoop ends k ≡ true → higherEnd ends k ≡ firstEnd ends k
 unfolding isLoop
 loop-higher ends k t = ends-cases (λ (a b : ℕ). a ≡ firstEnd ends k) ends k (sym (eqb-true (firstEnd ends k) (secondEnd ends k) t)) refl
-
--- The part of a turn as the code finds it.
-module _ (at : ℕ → List ℕ) (ends : List ℕ) (k turn a b : ℕ) (edges part : List ℕ) (p : a ≡ higherEnd ends k) (q : b ≡ lowerEnd ends k) where
-  pub part-higher : turn % 2 ≡ 0 → edges ≡ at a → part ≡ partIn (ltb turn 2) k edges → part ≡ partAt at ends k turn
-  unfolding partAt
-  part-higher t e f = rw (eq-eqb (turn % 2) 0 t, ← p, ← e) f
-
-  pub part-lower : (turn % 2 ≡ 0 → ⊥) → (a ≡ b → ⊥) → edges ≡ at b → part ≡ partIn (ltb turn 2) k edges → part ≡ partAt at ends k turn
-  unfolding partAt
-  part-lower t d e f = rw (ne-eqb (turn % 2) 0 t, other-apart ends k (λ r. d (p ∙ (r ∙ sym q))), ← q, ← e) f
-
-pub part-none : (at : ℕ → List ℕ) (ends : List ℕ) (k turn a b : ℕ) → a ≡ higherEnd ends k → b ≡ lowerEnd ends k → (turn % 2 ≡ 0 → ⊥) → a ≡ b → [] ≡ partAt at ends k turn
-unfolding partAt
-part-none at ends k turn a b p q t e = rw (ne-eqb (turn % 2) 0 t, same-loop ends k (sym p ∙ (e ∙ q)))
 
 part-member : (later : Bool) (ends : List ℕ) (k v j : ℕ) → Mem j (partIn later k (edgesAt ends (edgeCount ends) v)) → j < edgeCount ends
 unfolding partIn

@@ -23,13 +23,13 @@ use Rattle.vizing.specs.Step.{Invariant}
 use Rattle.vizing.proofs.StepLaws.{run-keeps}
 use Rattle.vizing.proofs.Tally.{greatest-step, tally-same, tally-edges, tally-greatest}
 use Rattle.vizing.specs.MisraGries as definition
-use Rattle.edge_table.specs.TableOf.{FitsTable}
-use Rattle.edge_table.proofs.TableOfLaws.{start-table}
+use Rattle.repaint.specs.TableOf.{FitsTable}
+use Rattle.repaint.proofs.TableOfLaws.{start-table}
 use Rattle.misra_gries.specs.declared.tally.Tally.{Tally}
 use Rattle.misra_gries.proofs.StepLaws.{palette}
 use Rattle.misra_gries.specs.Step.{InRange, Ready, topColor, tallyOf, Tallied, Running}
 use Rattle.edge_table.specs.EdgeTable.{noEdge}
-use Rattle.edge_table.proofs.EdgeTableLaws.{getD-same}
+use Rattle.repaint.proofs.TableOfLaws.{getD-same}
 
 -- ---- Days read off the tally: the greatest colour plus one, or 0 where no edge is coloured.
 

@@ -13,8 +13,8 @@ use lib.Dec.{eqb, ltb}
 use Rattle.graph.specs.Stretch.{Table}
 use Rattle.vizing.specs.Demand3.{Admitted, maxDegree}
 use Rattle.vizing.specs.Step.{Invariant}
-use Rattle.edge_table.specs.TableOf.{TableOf}
-use Rattle.edge_table.specs.Repaint.{Repaintable}
+use Rattle.repaint.specs.TableOf.{TableOf}
+use Rattle.repaint.specs.Repaint.{Repaintable}
 use Rattle.edge_table.specs.StepRepaint.{exchangedColors}
 use Rattle.vizing.specs.MisraGries as definition
 use Rattle.misra_gries.specs.declared.tally.Tally.{Tally}

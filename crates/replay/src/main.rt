@@ -1,17 +1,11 @@
 // Runs the cases of standard input, a line each, and prints what each call answered.
 mod calls;
-mod cursor;
-mod input;
-mod lent;
-mod lines;
-mod names;
-mod output;
 
 use crate::calls::call;
-use crate::cursor::Cursor;
-use crate::lines::Sizes;
-use crate::lines::read_line;
-use crate::output::flush;
+use replay_input::Cursor;
+use replay_input::Sizes;
+use replay_input::read_line;
+use replay_output::flush;
 
 fn run(
     buffer: &mut [u8],

@@ -1,0 +1,2 @@
+-- Laws of what specs/ defines.
+pub mod PartsLaws

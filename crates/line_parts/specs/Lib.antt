@@ -1,0 +1,2 @@
+-- The parts of the edges that share an end with an edge.
+pub mod Parts

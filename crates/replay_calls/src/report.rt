@@ -1,0 +1,127 @@
+// The answers of the calls as they are printed.
+use edge_walk::WalkStep;
+use edge_walk::edge_at;
+use graph::Coloring;
+use graph::IncidenceAnswer;
+use graph::NodeIndex;
+use graph_file::FileAnswer;
+use line_graph::LineList;
+use replay_output::put;
+use replay_output::put_all;
+use replay_output::put_list;
+use replay_output::put_number;
+use replay_output::put_report;
+
+pub(crate) fn put_coloring(
+    text: &mut [u8],
+    waiting: usize,
+    name: &[u8],
+    answer: Coloring,
+) -> usize {
+    match answer {
+        Coloring::Accepted { days } => put_report(text, waiting, name, b"days", days as u64),
+        Coloring::Refused(refusal) => put_report(
+            text,
+            waiting,
+            name,
+            b"refused",
+            refusal.number() as u64,
+        ),
+    }
+}
+
+// A colouring's report and its slice.
+pub fn put_colored(
+    text: &mut [u8],
+    waiting: usize,
+    name: &[u8],
+    answer: Coloring,
+    colors: &[u16],
+) -> usize {
+    let end = put_coloring(text, waiting, name, answer);
+    let end = put_list(text, end, colors);
+    put(text, end, b'\n')
+}
+
+pub(crate) fn put_line_list(text: &mut [u8], waiting: usize, answer: LineList) -> usize {
+    match answer {
+        LineList::Accepted { pairs } => put_report(
+            text,
+            waiting,
+            b"line_graph",
+            b"pairs",
+            pairs as u64,
+        ),
+        LineList::Refused(refusal) => put_report(
+            text,
+            waiting,
+            b"line_graph",
+            b"refused",
+            refusal.number() as u64,
+        ),
+    }
+}
+
+pub(crate) fn put_incidence(text: &mut [u8], waiting: usize, answer: IncidenceAnswer) -> usize {
+    match answer {
+        IncidenceAnswer::Accepted { total } => put_report(
+            text,
+            waiting,
+            b"incidence",
+            b"total",
+            total as u64,
+        ),
+        IncidenceAnswer::Refused(refusal) => put_report(
+            text,
+            waiting,
+            b"incidence",
+            b"refused",
+            refusal.number() as u64,
+        ),
+    }
+}
+
+// What a walk meets from this place on, each step at the place that the one before gave, and the word that says the end.
+pub(crate) fn put_walk(
+    text: &mut [u8],
+    waiting: usize,
+    starts: &[u16],
+    entries: &[u16],
+    node: NodeIndex,
+    place: usize,
+) -> usize {
+    let mut end = waiting;
+    let mut at = place;
+    loop {
+        match edge_at(starts, entries, node, at) {
+            WalkStep::End => {
+                end = put_all(text, end, b" end");
+                return put(text, end, b'\n');
+            }
+            WalkStep::Edge(edge, next) => {
+                end = put(text, end, b' ');
+                end = put_number(text, end, edge.0 as u64);
+                at = next;
+            }
+        }
+    }
+}
+
+pub(crate) fn put_file(text: &mut [u8], waiting: usize, answer: FileAnswer) -> usize {
+    match answer {
+        FileAnswer::Accepted { nodes, edges, tags } => {
+            let end = put_all(text, waiting, b"read_graph_file nodes ");
+            let end = put_number(text, end, nodes as u64);
+            let end = put_all(text, end, b" edges ");
+            let end = put_number(text, end, edges as u64);
+            put_report(text, end, b"", b"tags", tags as u64)
+        }
+        FileAnswer::Refused(refusal) => put_report(
+            text,
+            waiting,
+            b"read_graph_file",
+            b"refused",
+            refusal.number() as u64,
+        ),
+    }
+}

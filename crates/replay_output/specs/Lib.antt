@@ -1,0 +1,2 @@
+-- What a call is lent.
+pub mod Lent
