@@ -1,14 +1,16 @@
--- The edge table as a list: what stands at its places, and what each function answers.
--- There is a row for each of 576 colours, and in it a place for each of 512 nodes: colour c's place for node v is c * 512 + v.
+-- The edge table, and the new colours of an exchanged path and of a rotated fan.
 use Prim.Native.Nat.{ℕ, zero, suc, _+_, _*_}
-use mathlib.Core.List.{List}
+use mathlib.Core.List.{List, [], _∷_, _++_, map}
 use mathlib.Core.Option.{Option, none, some}
 use mathlib.Core.Bool.{Bool, true, false, cond}
 use lib.ListN.{getD}
 use lib.Dec.{eqb, ltb}
-use Rattle.vizing.specs.MisraGries.{isNone}
+use Rattle.vizing.specs.MisraGries.{isNone, swap}
 use Rattle.edge_table.specs.declared.EdgeOfColor.{EdgeOfColor}
 use Rattle.edge_table.specs.declared.EdgeOfColor.the-variants.{Edge, Nothing}
+use Rattle.graph.specs.Colored.{colorOf}
+
+-- ---- The edge table as a list: what stands at its places, and what each function answers. There is a row for each of 576 colours, and in it a place for each of 512 nodes: colour c's place for node v is c * 512 + v.
 
 -- ---- entries
 
@@ -46,3 +48,13 @@ emptyFrom (suc fuel) T v c = elim (isEmpty T v c) [ true ↦ c | false ↦ empty
 -- The first colour that no edge at v has, 576 if each is there.
 unfoldable pub smallestEmpty : List ℕ → ℕ → ℕ
 smallestEmpty T v = emptyFrom 576 T v 0
+
+-- ---- The new colours of an exchanged path and of a rotated fan.
+
+-- The colours that the path's edges take.
+abbrev pub exchangedColors : List ℕ → ℕ → ℕ → List ℕ → List ℕ
+exchangedColors l c d ks = map (λ (k : ℕ). swap c d (colorOf l k)) ks
+
+-- The colours that the fan's places 0 to w take; ks are places 1 to w.
+abbrev pub rotatedColors : List ℕ → List ℕ → ℕ → List ℕ
+rotatedColors l ks d = map (colorOf l) ks ++ (d ∷ [])

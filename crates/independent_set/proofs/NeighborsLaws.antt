@@ -1,20 +1,27 @@
--- Putting off the neighbours of an item, as the code goes over them: of a node the far ends of its edges, of an edge the parts of the edges at its ends.
-use Prim.Native.Nat.{ℕ, zero, suc, _+_, _%_, _≤_, _<_}
-use mathlib.Core.Bool.{Bool, true, false}
-use mathlib.Core.List.{List, [], _∷_, _++_, map, reverse, append-assoc, append-nil}
+-- Laws of putting off the neighbours of an item, as the code goes over them.
+use Prim.Native.Nat.{ℕ, _≤_, suc, _-_, _<_, zero, _+_, _%_}
+use mathlib.Core.Bool.{true, false, Bool}
+use mathlib.Core.List.{List, [], _∷_, _++_, reverse, reverse-cons, map, append-assoc, append-nil}
 use mathlib.Core.Path.{_≡_, refl, sym, ap, subst, _∙_}
+use native.Mathlib.Omega.{arith}
+use Rattle.lists.proofs.Tests.{by-test}
+use Rattle.graph.specs.Check.{Passed}
+use Rattle.graph.specs.Edges.{edgeCount, neighbors, farEnd, firstEnd, secondEnd, isLoop, edgesAt}
+use Rattle.greedy.specs.Call.{edgeNeighbors}
+use Rattle.independent_set.specs.declared.items.Items.{Items}
+use Rattle.independent_set.specs.Items.{neighborsOf, countOf, Tabled}
+use lib.ListN.{length, getD, drop, take}
+use lib.Seq.{drop-cons, drop-length, take-all}
+use Rattle.greedy.specs.IndependentSet.{Lists, putOff, putOffAll}
+use Rattle.independent_set.specs.Listing.{Held, listsAt}
+use Rattle.independent_set.proofs.ListingLaws.{lists-held}
 use native.Mathlib.Nat.{not-suc-le-zero}
 use native.Mathlib.Numerals.{add-one}
-use native.Mathlib.Omega.{arith}
-use lib.ListN.{length, getD, take}
-use lib.Seq.{take-all}
 use lib.Dec.{eqb, ltb}
 use borrow.Author.Tests.{eqb-true}
-use Rattle.lists.proofs.Tests.{by-test}
 use Rattle.lists.specs.Member.{Mem}
 use Rattle.lists.proofs.MemberLaws.{mem-map, mem-getD}
 use Rattle.graph.proofs.CheckLaws.{passed-inside}
-use Rattle.graph.specs.Edges.{edgeCount, farEnd, firstEnd, secondEnd, isLoop, edgesAt}
 use Rattle.graph.proofs.EdgeLaws.{edge-at, edges-at-nodup}
 use Rattle.graph.proofs.NeighborLaws.{neighbors-far-ends, passed-neighbor}
 use Rattle.graph.specs.Stretch.{stretch}
@@ -24,13 +31,59 @@ use Rattle.line_list.proofs.PairLaws.{before-member, after-member}
 use Rattle.line_parts.specs.Parts.{partIn, partAt}
 use Rattle.line_parts.proofs.PartsLaws.{ends-cases}
 use Rattle.greedy.proofs.TurnLaws.{edge-neighbors}
-use Rattle.greedy.specs.IndependentSet.{Lists, putOff, putOffAll}
-use Rattle.independent_set.specs.declared.items.Items.{Items}
-use Rattle.independent_set.specs.Items.{neighborsOf, Tabled}
-use Rattle.independent_set.proofs.ItemsLaws.{nodes-count, nodes-neighbors, edges-count, edges-neighbors}
-use Rattle.independent_set.specs.Listing.{Held, listsAt}
-use Rattle.independent_set.proofs.ListingLaws.{lists-held}
-use Rattle.independent_set.proofs.EdgesLaws.{put-off-append}
+
+-- ---- Laws of what specs/Items defines.
+
+pub items-few : (items : Items) (ends : List ℕ) → Passed (items .nodes) ends → items .count ≡ countOf items ends → items .count ≤ 4096
+unfolding countOf
+items-few items ends p e = by-test (items .edges) (λ t. omega (arith, rw t at e, p .edges)) (λ t. omega (arith, rw t at e, p .nodes))
+
+-- ---- by kind
+
+module _ (items : Items) (ends starts entries : List ℕ) (known : Tabled items ends starts entries) where
+  pub nodes-count : items .edges ≡ false → items .count ≡ items .nodes
+  unfolding countOf
+  nodes-count e = rw e at (known .all)
+
+  pub edges-count : items .edges ≡ true → items .count ≡ edgeCount ends
+  unfolding countOf
+  edges-count e = rw e at (known .all)
+
+pub nodes-neighbors : (items : Items) (ends : List ℕ) (v : ℕ) → items .edges ≡ false → neighborsOf items ends v ≡ neighbors ends (edgeCount ends) v
+unfolding neighborsOf
+nodes-neighbors items ends v e = rw e
+
+pub edges-neighbors : (items : Items) (ends : List ℕ) (k : ℕ) → items .edges ≡ true → neighborsOf items ends k ≡ edgeNeighbors (items .nodes) ends k
+unfolding neighborsOf
+edges-neighbors items ends k e = rw e
+
+-- ---- Putting off edges in a row.
+
+pub put-off-append : (s : Lists) (xs ys : List ℕ) → putOffAll s (xs ++ ys) ≡ putOffAll (putOffAll s xs) ys
+unfolding putOffAll
+put-off-append s [] ys = refl
+put-off-append s (x ∷ xs) ys = put-off-append (putOff s x) xs ys
+
+put-off-last : (s : Lists) (xs : List ℕ) (y : ℕ) → putOffAll s (reverse (y ∷ xs)) ≡ putOff (putOffAll s (reverse xs)) y
+unfolding putOffAll
+put-off-last s xs y = rw (reverse-cons y xs) (put-off-append s (reverse xs) (y ∷ []))
+
+module _ (m : ℕ) (s : Lists) (listed place next : List ℕ) (len end : ℕ) where
+  pub part-start : (edges : List ℕ) → Held m listed place next len end s → Held m listed place next len end (putOffAll s (reverse (drop (length edges) edges)))
+  unfolding putOffAll
+  part-start edges h = rw (drop-length edges) h
+
+  pub part-done : (edges : List ℕ) (i : ℕ) → i ≤ 0 → Held m listed place next len end (putOffAll s (reverse (drop i edges))) → Held m listed place next len end (putOffAll s (reverse edges))
+  part-done edges i b h = let e : i ≡ 0 = omega arith in rw e at h
+
+  pub part-more : (edges : List ℕ) (i : ℕ) → 0 < i → i ≤ length edges → Held m listed place next len end (putOffAll s (reverse (drop i edges)))
+      → (v : ℕ) → v ≡ getD edges (i - 1) 0 → (listed′ place′ next′ : List ℕ) (len′ end′ : ℕ) → Held m listed′ place′ next′ len′ end′ (putOff (listsAt listed next len end) v)
+      → Held m listed′ place′ next′ len′ end′ (putOffAll s (reverse (drop (i - 1) edges)))
+  part-more edges i a b h v p listed′ place′ next′ len′ end′ k =
+      let e : suc (i - 1) ≡ i = omega arith in
+      rw (drop-cons edges (i - 1) 0 (omega arith), put-off-last s (drop (suc (i - 1)) edges) (getD edges (i - 1) 0), e, ← p) (rw (lists-held m listed place next len end (putOffAll s (reverse (drop i edges))) h) at k)
+
+-- ---- Putting off the neighbours of an item, as the code goes over them: of a node the far ends of its edges, of an edge the parts of the edges at its ends.
 
 -- ---- the neighbours of a node
 

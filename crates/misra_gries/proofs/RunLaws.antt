@@ -23,13 +23,12 @@ use Rattle.vizing.specs.Step.{Invariant}
 use Rattle.vizing.proofs.StepLaws.{run-keeps}
 use Rattle.vizing.proofs.Tally.{greatest-step, tally-same, tally-edges, tally-greatest}
 use Rattle.vizing.specs.MisraGries as definition
-use Rattle.repaint.specs.TableOf.{FitsTable}
-use Rattle.repaint.proofs.TableOfLaws.{start-table}
+use Rattle.repaint.specs.Repaint.{FitsTable}
+use Rattle.repaint.proofs.RepaintLaws.{start-table, getD-same}
 use Rattle.misra_gries.specs.declared.tally.Tally.{Tally}
 use Rattle.misra_gries.proofs.StepLaws.{palette}
 use Rattle.misra_gries.specs.Step.{InRange, Ready, topColor, tallyOf, Tallied, Running}
 use Rattle.edge_table.specs.EdgeTable.{noEdge}
-use Rattle.repaint.proofs.TableOfLaws.{getD-same}
 
 -- ---- Days read off the tally: the greatest colour plus one, or 0 where no edge is coloured.
 

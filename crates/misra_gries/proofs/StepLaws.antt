@@ -20,14 +20,9 @@ use Rattle.graph.specs.Colored.{smallestFreeAt}
 use Rattle.vizing.specs.MisraGries.{lastOf, fanOf, path, exchange, store, find, step}
 use Rattle.vizing.proofs.StepForm.{lastFarEnd, rotatePlaces, StepParts, stepParts, fan-form, last-form, find-form, step-form}
 use Rattle.vizing.specs.Step.{Invariant}
-use Rattle.edge_table.specs.EdgeTable.{isEmpty, smallestEmpty}
-use Rattle.repaint.specs.Entered.{state, repainted}
-use Rattle.repaint.specs.TableOf.{TableOf}
-use Rattle.repaint.proofs.TableOfLaws.{says-smallest, says-free}
-use Rattle.repaint.specs.Repaint.{Repaintable}
-use Rattle.repaint.proofs.RepaintLaws.{repaint-done}
-use Rattle.edge_table.specs.StepRepaint.{exchangedColors, rotatedColors}
-use Rattle.repaint.proofs.StepRepaintLaws.{exchange-done, step-exchange, step-rotation}
+use Rattle.edge_table.specs.EdgeTable.{isEmpty, smallestEmpty, exchangedColors, rotatedColors}
+use Rattle.repaint.specs.Repaint.{state, repainted, TableOf, Repaintable}
+use Rattle.repaint.proofs.RepaintLaws.{says-smallest, says-free, repaint-done, exchange-done, step-exchange, step-rotation}
 use Rattle.recolor.specs.Front.{putFront}
 use Rattle.recolor.proofs.NewColorsLaws.{exchanged-front}
 use Rattle.recolor.specs.TablePath.{tablePath}

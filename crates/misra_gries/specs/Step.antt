@@ -7,15 +7,13 @@ use lib.ListN.{length, getD}
 use Rattle.graph.specs.Edges.{firstEnd, edgesAt, edgeCount, secondEnd}
 use Rattle.graph.specs.Color.{noColor}
 use Rattle.vizing.specs.MisraGries.{isFree, fanOf, path, Found, find, step, heldAfter, held}
-use Rattle.edge_table.specs.EdgeTable.{isEmpty}
+use Rattle.edge_table.specs.EdgeTable.{isEmpty, exchangedColors}
 use mathlib.Core.Bool.{cond}
 use lib.Dec.{eqb, ltb}
 use Rattle.graph.specs.Stretch.{Table}
 use Rattle.vizing.specs.Demand3.{Admitted, maxDegree}
 use Rattle.vizing.specs.Step.{Invariant}
-use Rattle.repaint.specs.TableOf.{TableOf}
-use Rattle.repaint.specs.Repaint.{Repaintable}
-use Rattle.edge_table.specs.StepRepaint.{exchangedColors}
+use Rattle.repaint.specs.Repaint.{TableOf, Repaintable}
 use Rattle.vizing.specs.MisraGries as definition
 use Rattle.misra_gries.specs.declared.tally.Tally.{Tally}
 

@@ -4,9 +4,8 @@ ghost use Prim.Native.Nat.{_≤_};
 ghost use lib.ListN.{length, drop};
 ghost use Rattle.graph.specs.Edges.{edgeCount};
 ghost use Rattle.vizing.specs.MisraGries.{path, exchange, store};
-ghost use Rattle.repaint.specs.TableOf.{TableOf};
-ghost use Rattle.repaint.specs.Repaint.{Repaintable};
-ghost use Rattle.edge_table.specs.StepRepaint.{rotatedColors};
+ghost use Rattle.repaint.specs.Repaint.{TableOf, Repaintable};
+ghost use Rattle.edge_table.specs.EdgeTable.{rotatedColors};
 ghost use Rattle.misra_gries.specs.Step.{Ready, Stepped, Exchanging, Turning, Turned};
 use crate::grow::grow;
 use edge_table::is_free;
@@ -21,6 +20,7 @@ use graph::NodeIndex;
 use recolor::follow;
 use recolor::shift_colors;
 use recolor::swap_colors;
+use repaint::repaint;
 
 // The path from the node along d, c, d and so on exchanges c and d; the answer is the number of its edges.
 fn exchange_edges(

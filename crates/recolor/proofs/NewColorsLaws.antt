@@ -9,7 +9,7 @@ use lib.Seq.{drop-cons}
 use Rattle.graph.specs.Colored.{colorOf}
 use Rattle.vizing.specs.MisraGries.{swap}
 use Rattle.vizing.proofs.AlternatingPath.{swap-left, swap-right, swap-other}
-use Rattle.edge_table.specs.StepRepaint.{exchangedColors, rotatedColors}
+use Rattle.edge_table.specs.EdgeTable.{exchangedColors, rotatedColors}
 use Rattle.recolor.specs.Front.{putFront}
 use Rattle.recolor.proofs.FrontLaws.{front-short, front-put, put-front, Front, front-start, front-next, front-all}
 use Rattle.recolor.specs.NewColors.{shiftedColors}

@@ -4,7 +4,7 @@ use graph::Color;
 use graph::EdgeIndex;
 ghost use mathlib.Core.Path.{_≡_};
 ghost use Rattle.vizing.specs.MisraGries.{swap};
-ghost use Rattle.edge_table.specs.StepRepaint.{exchangedColors};
+ghost use Rattle.edge_table.specs.EdgeTable.{exchangedColors};
 ghost use Rattle.recolor.specs.Front.{putFront};
 ghost use Rattle.recolor.specs.NewColors.{shiftedColors};
 

@@ -1,4 +1,2 @@
 -- Edges that take new colours: what is entered in the table, and when it is the table of a working list.
-pub mod Entered
-pub mod TableOf
 pub mod Repaint

@@ -9,7 +9,7 @@ use graph::EdgeIndex;
 use graph::NodeIndex;
 ghost use mathlib.Core.Path.{_≡_};
 ghost use lib.ListN.{set};
-ghost use Rattle.repaint.specs.Entered.{entered, enteredAtEnds, state, uncolored, colored, allUncolored, allColored, repainted};
+ghost use Rattle.repaint.specs.Repaint.{entered, enteredAtEnds, state, uncolored, colored, allUncolored, allColored, repainted};
 
 // A node without a place must not be entered in the next row.
 fn enter(table: &mut [u16], node: NodeIndex, color: Color, entry: Entry)

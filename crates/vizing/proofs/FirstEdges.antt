@@ -22,7 +22,7 @@ use Rattle.graph.proofs.ColorLaws.{colored-inside, color-replicate, colored-edg
 use Rattle.vizing.proofs.DefinitionLaws.{some-or-none, edge-of-color-some, first-joining-some, length-store, color-store-other, false-joins}
 use lib.Seq.{getD-take, length-take-le}
 use lib.Dec.{eqb}
-use borrow.Author.Tests.{eqb-true, ne-eqb}
+use borrow.Author.Tests.{ne-eqb}
 
 -- ---- The step of an edge changes colours of that edge and of coloured edges only, so the edges after it stay without a colour.
 

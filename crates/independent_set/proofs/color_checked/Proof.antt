@@ -3,7 +3,7 @@ use mathlib.Core.Path.{_∙_, refl, sym}
 use native.Mathlib.Omega.{arith}
 use borrow.Author.Needs.{needs}
 use Rattle.lists.proofs.PartsLaws.{copied-same}
-use Rattle.independent_set.proofs.ItemsLaws.{items-few}
+use Rattle.independent_set.proofs.NeighborsLaws.{items-few}
 use Rattle.independent_set.proofs.ListingLaws.{listing-at}
 use Rattle.independent_set.proofs.RoundsLaws.{colors-answer}
 use Rattle.independent_set.proofs.color_checked.Statement.{statement}

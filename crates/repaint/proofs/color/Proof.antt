@@ -1,6 +1,6 @@
 -- `color` meets its contract: the table first, then the working list.
 use borrow.Author.Needs.{needs}
-use Rattle.repaint.proofs.EnteredLaws.{color-leaves}
+use Rattle.repaint.proofs.RepaintLaws.{color-leaves}
 use Rattle.repaint.proofs.color.Statement.{statement}
 use Rattle.repaint.proofs.color.Tie as tie
 

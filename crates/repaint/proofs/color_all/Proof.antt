@@ -4,8 +4,8 @@ use Prim.Native.Nat.{_≤_, _-_}
 use mathlib.Core.Path.{_≡_}
 use lib.ListN.{length, drop}
 use borrow.Author.Needs.{needs}
-use Rattle.repaint.specs.Entered.{state, allColored}
-use Rattle.repaint.proofs.EnteredLaws.{color-next, color-end, color-short}
+use Rattle.repaint.specs.Repaint.{state, allColored}
+use Rattle.repaint.proofs.RepaintLaws.{color-next, color-end, color-short}
 use Rattle.repaint.proofs.color_all.Statement.{statement}
 use Rattle.repaint.proofs.color_all.Tie as tie
 

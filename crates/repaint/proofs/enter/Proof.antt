@@ -1,6 +1,6 @@
 -- `enter` meets its contract: its tests are those of `entered`, and past the end a store changes nothing.
 use borrow.Author.Needs.{needs}
-use Rattle.repaint.proofs.EnteredLaws.{entered-no-place, entered-past-end, entered-place}
+use Rattle.repaint.proofs.RepaintLaws.{entered-no-place, entered-past-end, entered-place}
 use Rattle.repaint.proofs.enter.Statement.{statement}
 use Rattle.repaint.proofs.enter.Tie as tie
 

@@ -1,6 +1,6 @@
 -- `enter_at_ends` meets its contract: one entry at each end.
 use borrow.Author.Needs.{needs}
-use Rattle.repaint.proofs.EnteredLaws.{enter-both}
+use Rattle.repaint.proofs.RepaintLaws.{enter-both}
 use Rattle.repaint.proofs.enter_at_ends.Statement.{statement}
 use Rattle.repaint.proofs.enter_at_ends.Tie as tie
 

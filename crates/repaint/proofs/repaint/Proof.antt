@@ -1,6 +1,6 @@
 -- `repaint` meets its contract: what the first call leaves the second starts from.
 use borrow.Author.Needs.{needs}
-use Rattle.repaint.proofs.EnteredLaws.{repaint-leaves}
+use Rattle.repaint.proofs.RepaintLaws.{repaint-leaves}
 use Rattle.repaint.proofs.repaint.Statement.{statement}
 use Rattle.repaint.proofs.repaint.Tie as tie
 

@@ -1,6 +1,6 @@
 -- `uncolor` meets its contract: the places of the edge's colour, then the working list.
 use borrow.Author.Needs.{needs}
-use Rattle.repaint.proofs.EnteredLaws.{uncolor-leaves}
+use Rattle.repaint.proofs.RepaintLaws.{uncolor-leaves}
 use Rattle.repaint.proofs.uncolor.Statement.{statement}
 use Rattle.repaint.proofs.uncolor.Tie as tie
 

@@ -4,8 +4,8 @@ use Prim.Native.Nat.{_≤_, _-_}
 use mathlib.Core.Path.{_≡_}
 use lib.ListN.{length, drop}
 use borrow.Author.Needs.{needs}
-use Rattle.repaint.specs.Entered.{state, allUncolored}
-use Rattle.repaint.proofs.EnteredLaws.{uncolor-next, uncolor-end}
+use Rattle.repaint.specs.Repaint.{state, allUncolored}
+use Rattle.repaint.proofs.RepaintLaws.{uncolor-next, uncolor-end}
 use Rattle.repaint.proofs.uncolor_all.Statement.{statement}
 use Rattle.repaint.proofs.uncolor_all.Tie as tie
 

@@ -9,7 +9,7 @@ use Rattle.lists.proofs.MemberLaws.{mem-getD}
 use Rattle.greedy.specs.IndependentSet.{putOffAll}
 use Rattle.independent_set.specs.Listing.{Held, listsAt}
 use Rattle.independent_set.proofs.ListingLaws.{held-at}
-use Rattle.independent_set.proofs.EdgesLaws.{part-start, part-done, part-more}
+use Rattle.independent_set.proofs.NeighborsLaws.{part-start, part-done, part-more}
 use Rattle.independent_set.proofs.edges.put_off_part.Statement.{statement}
 use Rattle.independent_set.proofs.edges.put_off_part.Tie as tie
 

@@ -7,7 +7,7 @@ use native.Mathlib.Omega.{arith}
 use lib.ListN.{length, drop}
 use borrow.Author.Needs.{needs}
 use Rattle.recolor.proofs.FrontLaws.{Front}
-use Rattle.edge_table.specs.StepRepaint.{rotatedColors}
+use Rattle.edge_table.specs.EdgeTable.{rotatedColors}
 use Rattle.recolor.specs.NewColors.{shiftedColors}
 use Rattle.recolor.proofs.NewColorsLaws.{shifted-none, shifted-short, shifted-start, shifted-next, shifted-end}
 use Rattle.recolor.proofs.new_colors.shift_colors.Statement.{statement}

@@ -6,7 +6,7 @@ use mathlib.Core.Path.{_≡_}
 use lib.ListN.{length, drop}
 use borrow.Author.Needs.{needs}
 use Rattle.recolor.proofs.FrontLaws.{Front}
-use Rattle.edge_table.specs.StepRepaint.{exchangedColors}
+use Rattle.edge_table.specs.EdgeTable.{exchangedColors}
 use Rattle.recolor.proofs.NewColorsLaws.{exchanged-short, exchanged-start, exchanged-next, exchanged-end}
 use Rattle.recolor.proofs.new_colors.swap_colors.Statement.{statement}
 use Rattle.recolor.proofs.new_colors.swap_colors.Tie as tie
