@@ -1,6 +1,13 @@
 // The greedy colourings, Misra-Gries and the match days: each lends so much of its slices as its line says, calls, and prints the
 // answer. The other calls are in replay_calls.
+use graph::Coloring;
 use greedy::ColoringStrategy;
+use greedy_color::greedy_edge_color;
+use greedy_color::greedy_edge_color_with_coloring_strategy;
+use greedy_color::greedy_node_color;
+use greedy_color::greedy_node_color_with_coloring_strategy;
+use greedy_color::greedy_node_color_with_preset_colors;
+use misra_gries::misra_gries_edge_color;
 use replay_calls::put_colored;
 use replay_input::Line;
 use replay_input::Name;
@@ -13,43 +20,6 @@ use replay_output::put;
 use replay_output::put_all;
 use replay_output::put_report;
 
-fn call_node_color(
-    text: &mut [u8],
-    waiting: usize,
-    n: usize,
-    ends: &[u16],
-    line: Line,
-    list: &mut [u16],
-) -> usize {
-    let c = cut(line.first, list);
-    let colors = &mut list[..c];
-    lend(colors);
-    let answer = greedy_color::greedy_node_color(n, ends, colors);
-    put_colored(text, waiting, b"greedy_node_color", answer, colors)
-}
-
-fn call_node_color_preset(
-    text: &mut [u8],
-    waiting: usize,
-    n: usize,
-    ends: &[u16],
-    presets: &[u16],
-    line: Line,
-    list: &mut [u16],
-) -> usize {
-    let c = cut(line.first, list);
-    let colors = &mut list[..c];
-    lend(colors);
-    let answer = greedy_color::greedy_node_color_with_preset_colors(n, ends, presets, colors);
-    put_colored(
-        text,
-        waiting,
-        b"greedy_node_color_with_preset_colors",
-        answer,
-        colors,
-    )
-}
-
 // 0 Degree, 1 Saturation, 2 IndependentSet; the cases have no other.
 fn strategy_of(number: usize) -> ColoringStrategy {
     if number == 0 {
@@ -61,92 +31,60 @@ fn strategy_of(number: usize) -> ColoringStrategy {
     ColoringStrategy::IndependentSet
 }
 
-fn call_node_color_by(
+fn put_name(text: &mut [u8], waiting: usize, name: Name) -> usize {
+    match name {
+        Name::GreedyNodeColor => put_all(text, waiting, b"greedy_node_color"),
+        Name::GreedyNodeColorWithPresetColors => {
+            put_all(text, waiting, b"greedy_node_color_with_preset_colors")
+        }
+        Name::GreedyNodeColorWithColoringStrategy => {
+            put_all(text, waiting, b"greedy_node_color_with_coloring_strategy")
+        }
+        Name::GreedyEdgeColor => put_all(text, waiting, b"greedy_edge_color"),
+        Name::GreedyEdgeColorWithColoringStrategy => {
+            put_all(text, waiting, b"greedy_edge_color_with_coloring_strategy")
+        }
+        _ => put_all(text, waiting, b"misra_gries_edge_color"),
+    }
+}
+
+// The line's colouring, by the strategy that its first number names where it has one.
+fn color(n: usize, ends: &[u16], presets: &[u16], line: Line, colors: &mut [u16]) -> Coloring {
+    let strategy = strategy_of(line.first);
+    let name = line.name;
+    match name {
+        Name::GreedyNodeColor => greedy_node_color(n, ends, colors),
+        Name::GreedyNodeColorWithPresetColors => {
+            greedy_node_color_with_preset_colors(n, ends, presets, colors)
+        }
+        Name::GreedyNodeColorWithColoringStrategy => {
+            greedy_node_color_with_coloring_strategy(n, ends, presets, strategy, colors)
+        }
+        Name::GreedyEdgeColor => greedy_edge_color(n, ends, colors),
+        Name::GreedyEdgeColorWithColoringStrategy => {
+            greedy_edge_color_with_coloring_strategy(n, ends, presets, strategy, colors)
+        }
+        _ => misra_gries_edge_color(n, ends, colors),
+    }
+}
+
+// A greedy colouring or Misra-Gries, with so many colours lent.
+fn call_coloring(
     text: &mut [u8],
     waiting: usize,
     n: usize,
     ends: &[u16],
     presets: &[u16],
     line: Line,
+    lent: usize,
     list: &mut [u16],
 ) -> usize {
-    let c = cut(line.second, list);
+    let c = cut(lent, list);
     let colors = &mut list[..c];
     lend(colors);
-    let strategy = strategy_of(line.first);
-    let answer = greedy_color::greedy_node_color_with_coloring_strategy(
-        n,
-        ends,
-        presets,
-        strategy,
-        colors,
-    );
-    put_colored(
-        text,
-        waiting,
-        b"greedy_node_color_with_coloring_strategy",
-        answer,
-        colors,
-    )
-}
-
-fn call_edge_color(
-    text: &mut [u8],
-    waiting: usize,
-    n: usize,
-    ends: &[u16],
-    line: Line,
-    list: &mut [u16],
-) -> usize {
-    let c = cut(line.first, list);
-    let colors = &mut list[..c];
-    lend(colors);
-    let answer = greedy_color::greedy_edge_color(n, ends, colors);
-    put_colored(text, waiting, b"greedy_edge_color", answer, colors)
-}
-
-fn call_edge_color_by(
-    text: &mut [u8],
-    waiting: usize,
-    n: usize,
-    ends: &[u16],
-    presets: &[u16],
-    line: Line,
-    list: &mut [u16],
-) -> usize {
-    let c = cut(line.second, list);
-    let colors = &mut list[..c];
-    lend(colors);
-    let strategy = strategy_of(line.first);
-    let answer = greedy_color::greedy_edge_color_with_coloring_strategy(
-        n,
-        ends,
-        presets,
-        strategy,
-        colors,
-    );
-    put_colored(
-        text,
-        waiting,
-        b"greedy_edge_color_with_coloring_strategy",
-        answer,
-        colors,
-    )
-}
-
-fn call_misra_gries(
-    text: &mut [u8],
-    waiting: usize,
-    n: usize,
-    ends: &[u16],
-    line: Line,
-    list: &mut [u16],
-) -> usize {
-    let c = cut(line.first, list);
-    let colors = &mut list[..c];
-    lend(colors);
-    let answer = misra_gries::misra_gries_edge_color(n, ends, colors);
-    put_colored(text, waiting, b"misra_gries_edge_color", answer, colors)
+    let answer = color(n, ends, presets, line, colors);
+    let end = put_name(text, waiting, line.name);
+    put_colored(text, end, b"", answer, colors)
 }
 
 // As much of the text as was lent, then an empty line.
@@ -178,8 +116,8 @@ fn call_matchdays(
     }
 }
 
-// The line's call of a greedy colouring or of Misra-Gries; a line that is none prints nothing.
-fn call_coloring(
+// A strategy's number comes before that of the colours. A line that is no colouring prints nothing.
+fn call_colorings(
     text: &mut [u8],
     waiting: usize,
     n: usize,
@@ -190,18 +128,15 @@ fn call_coloring(
 ) -> usize {
     let name = line.name;
     match name {
-        Name::GreedyNodeColor => call_node_color(text, waiting, n, ends, line, list),
-        Name::GreedyNodeColorWithPresetColors => {
-            call_node_color_preset(text, waiting, n, ends, presets, line, list)
+        Name::GreedyNodeColorWithColoringStrategy | Name::GreedyEdgeColorWithColoringStrategy => {
+            call_coloring(text, waiting, n, ends, presets, line, line.second, list)
         }
-        Name::GreedyNodeColorWithColoringStrategy => {
-            call_node_color_by(text, waiting, n, ends, presets, line, list)
+        Name::GreedyNodeColor
+        | Name::GreedyNodeColorWithPresetColors
+        | Name::GreedyEdgeColor
+        | Name::MisraGriesEdgeColor => {
+            call_coloring(text, waiting, n, ends, presets, line, line.first, list)
         }
-        Name::GreedyEdgeColor => call_edge_color(text, waiting, n, ends, line, list),
-        Name::GreedyEdgeColorWithColoringStrategy => {
-            call_edge_color_by(text, waiting, n, ends, presets, line, list)
-        }
-        Name::MisraGriesEdgeColor => call_misra_gries(text, waiting, n, ends, line, list),
         _ => waiting,
     }
 }
@@ -227,6 +162,6 @@ pub(crate) fn call(
     let f = cut_bytes(sizes.file, file);
     let file = &file[..f];
     let end = replay_calls::call(text, waiting, n, ends, line, list, entries, bytes, file);
-    let end = call_coloring(text, end, n, ends, presets, line, list);
+    let end = call_colorings(text, end, n, ends, presets, line, list);
     call_matchdays(text, end, file, line, bytes)
 }

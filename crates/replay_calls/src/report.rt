@@ -4,6 +4,7 @@ use edge_walk::edge_at;
 use graph::Coloring;
 use graph::IncidenceAnswer;
 use graph::NodeIndex;
+use graph::Refusal;
 use graph_file::FileAnswer;
 use line_graph::LineList;
 use replay_output::put;
@@ -11,6 +12,10 @@ use replay_output::put_all;
 use replay_output::put_list;
 use replay_output::put_number;
 use replay_output::put_report;
+
+fn put_refused(text: &mut [u8], waiting: usize, name: &[u8], refusal: Refusal) -> usize {
+    put_report(text, waiting, name, b"refused", refusal.number() as u64)
+}
 
 pub(crate) fn put_coloring(
     text: &mut [u8],
@@ -20,13 +25,7 @@ pub(crate) fn put_coloring(
 ) -> usize {
     match answer {
         Coloring::Accepted { days } => put_report(text, waiting, name, b"days", days as u64),
-        Coloring::Refused(refusal) => put_report(
-            text,
-            waiting,
-            name,
-            b"refused",
-            refusal.number() as u64,
-        ),
+        Coloring::Refused(refusal) => put_refused(text, waiting, name, refusal),
     }
 }
 
@@ -52,13 +51,7 @@ pub(crate) fn put_line_list(text: &mut [u8], waiting: usize, answer: LineList) -
             b"pairs",
             pairs as u64,
         ),
-        LineList::Refused(refusal) => put_report(
-            text,
-            waiting,
-            b"line_graph",
-            b"refused",
-            refusal.number() as u64,
-        ),
+        LineList::Refused(refusal) => put_refused(text, waiting, b"line_graph", refusal),
     }
 }
 
@@ -71,13 +64,7 @@ pub(crate) fn put_incidence(text: &mut [u8], waiting: usize, answer: IncidenceAn
             b"total",
             total as u64,
         ),
-        IncidenceAnswer::Refused(refusal) => put_report(
-            text,
-            waiting,
-            b"incidence",
-            b"refused",
-            refusal.number() as u64,
-        ),
+        IncidenceAnswer::Refused(refusal) => put_refused(text, waiting, b"incidence", refusal),
     }
 }
 
@@ -116,12 +103,6 @@ pub(crate) fn put_file(text: &mut [u8], waiting: usize, answer: FileAnswer) -> u
             let end = put_number(text, end, edges as u64);
             put_report(text, end, b"", b"tags", tags as u64)
         }
-        FileAnswer::Refused(refusal) => put_report(
-            text,
-            waiting,
-            b"read_graph_file",
-            b"refused",
-            refusal.number() as u64,
-        ),
+        FileAnswer::Refused(refusal) => put_refused(text, waiting, b"read_graph_file", refusal),
     }
 }

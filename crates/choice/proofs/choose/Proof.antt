@@ -26,9 +26,6 @@ returns-2 c = few-saturations _ _ _ (c .if2 .taken)
 returns-3 : tie.Need-returns-3 Inv-loop μ-loop
 returns-3 c = few-waiting _ _ _ (c .if3 .taken)
 
-loop-holds : tie.Need-loop-holds Inv-loop μ-loop
-loop-holds c = (lowest-begin _, omega arith)
-
 returns-4 : tie.Need-returns-4 Inv-loop μ-loop
 returns-4 c =
     let at-test = c .before .before .before .before .before .before in
@@ -67,7 +64,7 @@ choose-spec =
     returns-2
     returns-3
     (λ c κs. search needs) (λ c κs. search needs)
-    loop-holds
+    (λ c. (lowest-begin _, omega arith))
     (λ c. search needs) (λ c. search needs) (λ c. search needs) (λ c. search needs) (λ c. search needs) (λ c. search needs) (λ c. search needs) (λ c. search needs)
     returns-4
     (λ c. search needs)

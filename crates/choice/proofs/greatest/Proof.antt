@@ -16,9 +16,6 @@ Inv-loop counts n best₀ v₀ best v = (v ≤ n) × (best ≡ greatestBelow (λ
 abbrev μ-loop : tie.MeasureT-loop
 μ-loop counts n best₀ v₀ best v = n - v
 
-loop-holds : tie.Need-loop-holds Inv-loop μ-loop
-loop-holds c = (omega arith, greatest-none _)
-
 loop-again : tie.Need-loop-again Inv-loop μ-loop
 loop-again c = (omega (arith, c .before .before .loop-test .taken), greatest-more _ _ _ _ (c .before .before .before .loop .inv .1) refl (c .if1 .taken))
 
@@ -34,7 +31,7 @@ greatest-spec =
     (tie.spec
     Inv-loop
     μ-loop
-    loop-holds
+    (λ c. (omega arith, greatest-none _))
     (λ c. search needs) (λ c. search needs) (λ c. search needs) (λ c. search needs)
     loop-again
     (λ c. search needs)

@@ -10,14 +10,8 @@ returns c = (mark-outside _ _ _ _ _ _ _ (c .if1 .taken), c .before .before .befo
 returns-2 : tie.Need-returns-2
 returns-2 c = (mark-colored _ _ _ _ _ _ _ (c .if2 .taken), c .before .before .before .before .before .before .before .before .before .pre)
 
-ask-requires : tie.Need-ask-requires
-ask-requires c κs = c .before .before .before .before .before .before .before .before .before .before .before .pre
-
 returns-3 : tie.Need-returns-3
 returns-3 c = (mark-first _ _ _ _ _ _ _ (c .before .before .before .before .before .before .before .before .if1 .left) (c .before .before .before .before .before .before .if2 .left) _ (c .before .before .before .before .before .first-node .ensures) _ (c .before .before .before .ask .ensures .0) (c .if3 .taken), c .before .before .before .ask .ensures .1)
-
-ask-requires-2 : tie.Need-ask-requires-2
-ask-requires-2 c κs = c .before .before .before .before .before .ask .ensures .1
 
 returns-4 : tie.Need-returns-4
 returns-4 c = (mark-second _ _ _ _ _ _ _ (c .before .before .before .before .before .before .before .before .before .before .before .before .before .before .if1 .left) (c .before .before .before .before .before .before .before .before .before .before .before .before .if2 .left) _ (c .before .before .before .before .before .before .before .before .before .before .before .first-node .ensures) _ (c .before .before .before .before .before .before .before .before .before .ask .ensures .0) _ (c .before .before .before .before .before .second-node .ensures) _ (c .before .before .before .ask2 .ensures .0) (c .before .before .before .before .before .before .if3 .left) (c .if4 .taken), c .before .before .before .ask2 .ensures .1)
@@ -34,11 +28,11 @@ item-mark-spec =
     (λ c. search needs) (λ c. search needs)
     returns-2
     (λ c κs. search needs)
-    ask-requires
+    (λ c κs. c .before .before .before .before .before .before .before .before .before .before .before .pre)
     (λ c. search needs)
     returns-3
     (λ c κs. search needs)
-    ask-requires-2
+    (λ c κs. c .before .before .before .before .before .ask .ensures .1)
     (λ c. search needs)
     returns-4
     (λ c. search needs)

@@ -19,9 +19,6 @@ abbrev μ-loop : tie.MeasureT-loop
 loop-holds : tie.Need-loop-holds Inv-loop μ-loop
 loop-holds c = (omega arith, refl, refl, c .before .before .before .before .before .before .before .pre, along-none _ _ _ _ (c .before .before .before .before .before .before .before .args .edges .now) _)
 
-item-mark-requires : tie.Need-item-mark-requires Inv-loop μ-loop
-item-mark-requires c κs = c .before .before .before .before .loop .inv .3
-
 loop-again : tie.Need-loop-again Inv-loop μ-loop
 loop-again c = (omega (arith, c .before .before .before .before .before .before .before .before .loop-test .taken), search needs, search needs, c .before .before .before .before .item-mark .ensures .1, along-more _ _ _ _ _ _ _ _ (c .before .before .before .before .before .before .before .before .before .loop .inv .4) (c .before .before .before .before .before .before .before .before .loop-test .taken) _ _ (c .before .before .before .before .before .before .across .ensures) (c .before .before .before .before .item-mark .ensures .0))
 
@@ -39,7 +36,7 @@ mark-along-spec =
     μ-loop
     loop-holds
     (λ c. search needs) (λ c. search needs) (λ c κs. search needs) (λ c. search needs)
-    item-mark-requires
+    (λ c κs. c .before .before .before .before .loop .inv .3)
     (λ c. search needs) (λ c. search needs) (λ c. search needs)
     loop-again
     (λ c. search needs)

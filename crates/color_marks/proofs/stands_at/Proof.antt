@@ -17,9 +17,6 @@ Inv-loop kind ends starts entries colors node color edges i₀ i = (i ≤ length
 abbrev μ-loop : tie.MeasureT-loop
 μ-loop kind ends starts entries colors node color edges i₀ i = i
 
-loop-holds : tie.Need-loop-holds Inv-loop μ-loop
-loop-holds c = search (needs, stands-none)
-
 returns : tie.Need-returns Inv-loop μ-loop
 returns c = stands-here _ _ _ _ _ _ _ (c .before .before .before .before .before .before .before .loop-test .taken) (c .before .before .before .before .before .before .before .before .loop .inv .0) _ (c .before .before .before .before .before .across .ensures) (c .before .before .before .if1 .taken) (c .if2 .taken) _ (c .before .before .before .before .before .before .before .before .before .edges-at .ensures .0)
 
@@ -39,7 +36,7 @@ stands-at-spec =
     Inv-loop
     μ-loop
     (λ c κs. search needs)
-    loop-holds
+    (λ c. search (needs, stands-none))
     (λ c. search needs) (λ c. search needs) (λ c. search needs) (λ c κs. search needs) (λ c. search needs) (λ c. search needs) (λ c. search needs)
     returns
     (λ c. search needs)

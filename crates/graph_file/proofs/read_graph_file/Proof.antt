@@ -17,9 +17,6 @@ returns c =
     let o = answer-bad _ (c .before .before .before .before .before .args .ends .now) _ (c .before .before .layout-of .ensures .0) (c .enum-told .given .1) in
     (o .0, (o .1, file-reader _ _ (bytes-below (c .before .before .before .before)) _ _ o))
 
-mul-if1 : tie.Need-mul-if1
-mul-if1 c = omega (arith, c .before .before .before .layout-of .ensures .1 _ (c .before .file .given .1))
-
 returns-2 : tie.Need-returns-2
 returns-2 c =
     let l = c .before .before .before .before .layout-of .ensures in
@@ -50,7 +47,7 @@ read-graph-file-spec =
     (λ c κs. search needs) (λ c. search needs)
     returns
     (λ c. search needs)
-    mul-if1
+    (λ c. omega (arith, c .before .before .before .layout-of .ensures .1 _ (c .before .file .given .1)))
     returns-2
     (λ c. search needs)
     add-copy-numbers

@@ -8,9 +8,6 @@ use Rattle.greedy_color.proofs.Rules.{presets-part, nodes-without-prese
 use Rattle.greedy_color.proofs.greedy_node_color.Statement.{statement}
 use Rattle.greedy_color.proofs.greedy_node_color.Tie as tie
 
-slice-aggregate-color : tie.Need-slice-aggregate-color
-slice-aggregate-color c = presets-part _ 512 _ (omega arith)
-
 returns : tie.Need-returns
 returns c = let k = length (c .before .before .before .before .before .before .before .before .args .colors .now) in nodes-without-presets _ _ k _ _ _ _ (take-replicate k 512 65535 (omega arith)) (λ h e. e) (c .before .before .color .ensures .0) (c .before .before .color .ensures .1)
 
@@ -22,7 +19,7 @@ greedy-node-color-spec =
     tie.close
     (tie.spec
     (λ c. search needs)
-    slice-aggregate-color
+    (λ c. presets-part _ 512 _ (omega arith))
     (λ c κs. search needs) (λ c. search needs) (λ c κs. search needs) (λ c. search needs)
     returns
     (λ c. search needs)

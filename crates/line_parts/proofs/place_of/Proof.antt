@@ -15,14 +15,8 @@ Inv-loop edges edge i₀ i = (i ≤ length edges) × (placeOf (edge .0) (drop i 
 abbrev μ-loop : tie.MeasureT-loop
 μ-loop edges edge i₀ i = length edges - i
 
-loop-holds : tie.Need-loop-holds Inv-loop μ-loop
-loop-holds c = search (needs, place-start)
-
 returns : tie.Need-returns Inv-loop μ-loop
 returns c = search (needs, place-here)
-
-loop-again : tie.Need-loop-again Inv-loop μ-loop
-loop-again c = search (needs, place-more)
 
 returns-2 : tie.Need-returns-2 Inv-loop μ-loop
 returns-2 c = search (needs, place-end)
@@ -33,9 +27,9 @@ place-of-spec =
     (tie.spec
     Inv-loop
     μ-loop
-    loop-holds
+    (λ c. search (needs, place-start))
     (λ c. search needs) (λ c. search needs)
     returns
     (λ c. search needs) (λ c. search needs)
-    loop-again
+    (λ c. search (needs, place-more))
     returns-2)

@@ -7,11 +7,8 @@ use Rattle.matchday_text.proofs.CallLaws.{graph-done}
 use Rattle.matchday_text.proofs.graph_text.Statement.{statement}
 use Rattle.matchday_text.proofs.graph_text.Tie as tie
 
-slice-aggregate-outcome-text : tie.Need-slice-aggregate-outcome-text
-slice-aggregate-outcome-text c = sym (length-take-le _ _ (omega (arith, c .before .lent-places .ensures)))
-
 returns : tie.Need-returns
 returns c = graph-done _ _ _ _ _ _ (c .before .before .before .before .before .before .lent-places .ensures) (c .before .before .before .outcome-text .ensures .0) (c .before .before .before .outcome-text .ensures .1)
 
 pub graph-text-spec : {M : Type 1} → statement M
-graph-text-spec = tie.close (tie.spec (λ c κs. search needs) (λ c. search needs) slice-aggregate-outcome-text (λ c κs. search needs) (λ c. search needs) returns)
+graph-text-spec = tie.close (tie.spec (λ c κs. search needs) (λ c. search needs) (λ c. sym (length-take-le _ _ (omega (arith, c .before .lent-places .ensures)))) (λ c κs. search needs) (λ c. search needs) returns)

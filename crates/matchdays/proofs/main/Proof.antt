@@ -7,9 +7,6 @@ use Rattle.matchday_text.proofs.CallLaws.{text-fits}
 use Rattle.matchdays.proofs.main.Statement.{statement}
 use Rattle.matchdays.proofs.main.Tie as tie
 
-array-share-prefix-text : tie.Need-array-share-prefix-text
-array-share-prefix-text c = omega (arith, text-fits _ _ (c .before .matchday-text .ensures .0))
-
 slice-aggregate-write-all : tie.Need-slice-aggregate-write-all
 slice-aggregate-write-all c = sym (length-take-le _ _ (omega (arith, c .before .before .matchday-text .kept .1 .0, text-fits _ _ (c .before .before .matchday-text .ensures .0))))
 
@@ -18,6 +15,6 @@ main-spec =
     tie.close
     (tie.spec
     (λ c. search needs) (λ c κs. search needs) (λ c. search needs) (λ c. search needs) (λ c. search needs) (λ c κs. search needs)
-    array-share-prefix-text
+    (λ c. omega (arith, text-fits _ _ (c .before .matchday-text .ensures .0)))
     slice-aggregate-write-all
     (λ c κs. search needs) (λ c. search needs))

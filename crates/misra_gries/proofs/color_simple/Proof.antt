@@ -9,32 +9,11 @@ use native.Mathlib.Omega.{arith}
 use Rattle.misra_gries.proofs.color_simple.Statement.{statement}
 use Rattle.misra_gries.proofs.color_simple.Tie as tie
 
-slice-aggregate-run : tie.Need-slice-aggregate-run
-slice-aggregate-run c = sym (length-replicate {A = ℕ} 4096 65535)
-
-slice-aggregate-run-2 : tie.Need-slice-aggregate-run-2
-slice-aggregate-run-2 c = sym (length-replicate {A = ℕ} 294912 65535)
-
-slice-aggregate-run-3 : tie.Need-slice-aggregate-run-3
-slice-aggregate-run-3 c = sym (length-replicate {A = ℕ} 4096 0)
-
 run-requires : tie.Need-run-requires
 run-requires c κs = running-begin _ _ _ _ 294912 (c .before .before .before .before .before .before .before .pre .0) (c .before .before .before .before .before .before .before .pre .1 .0) refl
 
-array-share-prefix-work : tie.Need-array-share-prefix-work
-array-share-prefix-work c = omega (arith, running-room _ _ _ _ _ _ _ _ _ (c .before .before .before .run .ensures))
-
 slice-aggregate-copy-colors : tie.Need-slice-aggregate-copy-colors
 slice-aggregate-copy-colors c = sym (length-take-le _ _ (omega (arith, running-room _ _ _ _ _ _ _ _ _ (c .before .before .before .before .run .ensures))))
-
-copy-colors-requires : tie.Need-copy-colors-requires
-copy-colors-requires c κs = tt
-
-days-of-tally-requires : tie.Need-days-of-tally-requires
-days-of-tally-requires c κs = tt
-
-same-length : tie.Need-same-length
-same-length c = c .before .before .before .copy-colors .kept .1 .0
 
 returns : tie.Need-returns
 returns c =
@@ -46,13 +25,13 @@ pub color-simple-spec : {M : Type 1} → statement M
 color-simple-spec =
     tie.close
     (tie.spec
-    slice-aggregate-run
-    slice-aggregate-run-2
-    slice-aggregate-run-3
+    (λ c. sym (length-replicate {A = ℕ} 4096 65535))
+    (λ c. sym (length-replicate {A = ℕ} 294912 65535))
+    (λ c. sym (length-replicate {A = ℕ} 4096 0))
     run-requires
-    array-share-prefix-work
+    (λ c. omega (arith, running-room _ _ _ _ _ _ _ _ _ (c .before .before .before .run .ensures)))
     slice-aggregate-copy-colors
-    copy-colors-requires
-    days-of-tally-requires
-    same-length
+    (λ c κs. tt)
+    (λ c κs. tt)
+    (λ c. c .before .before .before .copy-colors .kept .1 .0)
     returns)

@@ -7,14 +7,8 @@ use Rattle.misra_gries.proofs.days_of_tally.Tie as tie
 returns : tie.Need-returns
 returns c = simp (eq-eqb _ _ (c .if1 .taken))
 
-cast-result : tie.Need-cast-result
-cast-result c = search needs
-
-add-result : tie.Need-add-result
-add-result c = search needs
-
 returns-2 : tie.Need-returns-2
 returns-2 c = simp (ne-eqb _ _ (c .before .if1 .left))
 
 pub days-of-tally-spec : {M : Type 1} → statement M
-days-of-tally-spec = tie.close (tie.spec returns cast-result add-result returns-2)
+days-of-tally-spec = tie.close (tie.spec returns (λ c. search needs) (λ c. search needs) returns-2)

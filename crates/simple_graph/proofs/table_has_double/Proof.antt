@@ -13,14 +13,8 @@ Inv-loop n ends starts entries seen₀ v₀ seen v = (v ≤ n) × Before ends v 
 abbrev μ-loop : tie.MeasureT-loop
 μ-loop n ends starts entries seen₀ v₀ seen v = n - v
 
-node-has-double-requires : tie.Need-node-has-double-requires Inv-loop μ-loop
-node-has-double-requires c κs = search (needs, node-ready)
-
 returns : tie.Need-returns Inv-loop μ-loop
 returns c = search (needs, double-found)
-
-loop-again : tie.Need-loop-again Inv-loop μ-loop
-loop-again c = search (needs, node-more)
 
 returns-2 : tie.Need-returns-2 Inv-loop μ-loop
 returns-2 c = search (needs, no-double)
@@ -31,8 +25,8 @@ table-has-double-spec =
     (tie.spec Inv-loop μ-loop
     (λ c. search (needs, no-node))
     (λ c. search needs) (λ c. search needs)
-    node-has-double-requires
+    (λ c κs. search (needs, node-ready))
     returns
     (λ c. search needs) (λ c. search needs)
-    loop-again
+    (λ c. search (needs, node-more))
     returns-2)

@@ -15,9 +15,6 @@ Inv-loop marks c₀ c = ((b : ℕ) → b < c → getD marks b 0 ≢ 0) × (c ≤
 abbrev μ-loop : tie.MeasureT-loop
 μ-loop marks c₀ c = length marks - c
 
-loop-holds : tie.Need-loop-holds Inv-loop μ-loop
-loop-holds c = (first-unmarked-begin (c .args .marks .now), omega arith)
-
 returns : tie.Need-returns Inv-loop μ-loop
 returns c = record { inside = c .before .before .before .loop .inv .1; before = c .before .before .before .loop .inv .0; here = λ h. c .if1 .taken }
 
@@ -33,7 +30,7 @@ first-unmarked-spec =
     (tie.spec
     Inv-loop
     μ-loop
-    loop-holds
+    (λ c. (first-unmarked-begin (c .args .marks .now), omega arith))
     (λ c. search needs)
     returns
     (λ c. search needs) (λ c. search needs)

@@ -21,9 +21,6 @@ abbrev μ-loop : tie.MeasureT-loop
 loop-holds : tie.Need-loop-holds Inv-loop μ-loop
 loop-holds c = (omega arith, refl, λ cs m. edges-marked-begin _ (c .before .before .before .args .edges .now) _ cs m)
 
-cast-color-of : tie.Need-cast-color-of Inv-loop μ-loop
-cast-color-of c = omega (arith, c .shared-slice-known3 .given (c .before .before .before .loop .i))
-
 loop-again : tie.Need-loop-again Inv-loop μ-loop
 loop-again c = (omega arith, c .before .before .mark .kept .0 ∙ c .before .before .before .before .before .before .before .loop .inv .1, λ cs m. edges-marked-next _ _ _ cs _ (c .before .before .before .before .before .before .before .loop .inv .2 cs m) _ _ (c .before .before .before .before .before .before .loop-test .taken) (c .before .before .before .color-of .ensures) (c .before .before .mark .ensures))
 
@@ -38,7 +35,7 @@ mark-colors-spec =
     μ-loop
     loop-holds
     (λ c. search needs) (λ c. search needs)
-    cast-color-of
+    (λ c. omega (arith, c .shared-slice-known3 .given (c .before .before .before .loop .i)))
     (λ c κs. search needs) (λ c κs. search needs) (λ c. search needs) (λ c. search needs)
     loop-again
     (λ c. search needs)

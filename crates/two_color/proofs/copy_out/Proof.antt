@@ -16,9 +16,6 @@ Inv-loop sides colors₀ i₀ colors i = (i ≤ length sides) × (length colors 
 abbrev μ-loop : tie.MeasureT-loop
 μ-loop sides colors₀ i₀ colors i = length sides - i
 
-loop-holds : tie.Need-loop-holds Inv-loop μ-loop
-loop-holds c = (omega arith, refl, refl)
-
 cast-colors : tie.Need-cast-colors Inv-loop μ-loop
 cast-colors c = omega (arith, c .before .before .before .pre .1 (c .before .before .loop .i) (c .before .loop-test .taken))
 
@@ -34,7 +31,7 @@ copy-out-spec =
     (tie.spec
     Inv-loop
     μ-loop
-    loop-holds
+    (λ c. (omega arith, refl, refl))
     (λ c. search needs) (λ c. search needs)
     cast-colors
     (λ c. search needs) (λ c. search needs) (λ c. search needs)

@@ -16,9 +16,6 @@ Inv-loop from to₀ i₀ to i = (i ≤ length from) × (i ≤ length to₀) × (
 abbrev μ-loop : tie.MeasureT-loop
 μ-loop from to₀ i₀ to i = length from - i
 
-loop-holds : tie.Need-loop-holds Inv-loop μ-loop
-loop-holds c = (omega arith, omega arith, refl, refl)
-
 returns : tie.Need-returns Inv-loop μ-loop
 returns c = copied-full _ _ _ _ (c .before .before .loop .inv .3) (c .before .before .loop .inv .1) (omega arith) (c .before .loop-test .taken)
 
@@ -34,7 +31,7 @@ copy-colors-spec =
     (tie.spec
     Inv-loop
     μ-loop
-    loop-holds
+    (λ c. (omega arith, omega arith, refl, refl))
     (λ c. search needs)
     returns
     (λ c. search needs) (λ c. search needs) (λ c. search needs) (λ c. search needs) (λ c. search needs) (λ c. search needs)

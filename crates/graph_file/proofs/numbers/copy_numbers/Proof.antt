@@ -17,9 +17,6 @@ Inv-loop bytes list₀ count i₀ list i = (list ≡ take i (numbers bytes) ++ d
 abbrev μ-loop : tie.MeasureT-loop
 μ-loop bytes list₀ count i₀ list i = count - i
 
-loop-holds : tie.Need-loop-holds Inv-loop μ-loop
-loop-holds c = (refl, omega arith, refl, refl)
-
 loop-again : tie.Need-loop-again Inv-loop μ-loop
 loop-again c =
     let l = c .before .before .loop in
@@ -39,7 +36,7 @@ copy-numbers-spec =
     (tie.spec
     Inv-loop
     μ-loop
-    loop-holds
+    (λ c. (refl, omega arith, refl, refl))
     (λ c. search needs) (λ c κs. search needs) (λ c. search needs)
     slice-write-list
     (λ c. search needs) (λ c. search needs)

@@ -17,9 +17,6 @@ Inv-loop presets listed₀ place₀ len₀ v₀ listed place len v = (v ≤ leng
 abbrev μ-loop : tie.MeasureT-loop
 μ-loop presets listed₀ place₀ len₀ v₀ listed place len v = length presets - v
 
-loop-holds : tie.Need-loop-holds Inv-loop μ-loop
-loop-holds c = (omega arith, list-none _ _ _ (c .pre .1) (c .pre .2))
-
 loop-again : tie.Need-loop-again Inv-loop μ-loop
 loop-again c = (omega arith, list-more _ _ _ _ _ _ (c .before .before .before .loop .inv .1) (c .before .before .before .before .pre .0) refl (c .before .before .loop-test .taken) (c .if1 .taken))
 
@@ -35,7 +32,7 @@ list-uncolored-spec =
     (tie.spec
     Inv-loop
     μ-loop
-    loop-holds
+    (λ c. (omega arith, list-none _ _ _ (c .pre .1) (c .pre .2)))
     (λ c. search needs) (λ c. search needs) (λ c. search needs) (λ c. search needs) (λ c. search needs) (λ c. search needs) (λ c. search needs) (λ c. search needs) (λ c. search needs) (λ c. search needs) (λ c. search needs)
     loop-again
     (λ c. search needs)

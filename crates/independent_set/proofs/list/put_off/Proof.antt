@@ -8,9 +8,6 @@ use Rattle.independent_set.proofs.ListingLaws.{listed-there, not-listed
 use Rattle.independent_set.proofs.list.put_off.Statement.{statement}
 use Rattle.independent_set.proofs.list.put_off.Tie as tie
 
-cast-here : tie.Need-cast-here
-cast-here c = omega (arith, c .slice-known .given (c .before .before .args .item .0))
-
 returns : tie.Need-returns
 returns c = let held = c .before .before .before .pre .0 in put-off-other _ _ _ _ _ _ _ held _ _ (not-listed _ _ _ _ _ _ (held .first) (c .if1 .taken)) refl
 
@@ -48,7 +45,7 @@ put-off-spec =
     tie.close
     (tie.spec
     (λ c. search needs) (λ c. search needs) (λ c. search needs)
-    cast-here
+    (λ c. omega (arith, c .slice-known .given (c .before .before .args .item .0)))
     returns
     (λ c. search needs) (λ c. search needs)
     returns-2

@@ -19,9 +19,6 @@ Inv-loop items ends starts entries listed₀ place₀ next₀ node reached₀ ed
 abbrev μ-loop : tie.MeasureT-loop
 μ-loop items ends starts entries listed₀ place₀ next₀ node reached₀ edges i₀ listed place next reached i = length edges - i
 
-loop-holds : tie.Need-loop-holds Inv-loop μ-loop
-loop-holds c = neighbors-none _ _ _ _ _ _ _ (c .before .before .before .before .before .before .before .pre .1)
-
 put-off-requires : tie.Need-put-off-requires Inv-loop μ-loop
 put-off-requires c κs =
     let after-far-end = c .before .before .before in
@@ -52,7 +49,7 @@ put-off-far-ends-spec =
     Inv-loop
     μ-loop
     (λ c κs. search needs)
-    loop-holds
+    (λ c. neighbors-none _ _ _ _ _ _ _ (c .before .before .before .before .before .before .before .pre .1))
     (λ c. search needs) (λ c. search needs)
     (λ c κs. search needs)
     put-off-requires

@@ -18,9 +18,6 @@ abbrev μ-loop : tie.MeasureT-loop
 loop-holds : tie.Need-loop-holds Inv-loop μ-loop
 loop-holds c = turn-start _ _ _ _ _ _ _ _ _ (c .before .before .before .before .before .before .before .pre .1 .0) (c .before .before .before .before .before .before .before .pre .1 .1)
 
-slice-read-t18 : tie.Need-slice-read-t18 Inv-loop μ-loop
-slice-read-t18 c = omega (arith, c .before .before .before .loop .inv .held .first .size)
-
 cast-v : tie.Need-cast-v Inv-loop μ-loop
 cast-v c = omega (arith, front-below _ _ _ _ _ _ _ _ _ _ (c .before .before .before .before .loop .inv) (c .before .before .if1 .taken), c .before .before .before .before .loop .inv .held .first .few)
 
@@ -64,7 +61,7 @@ color-listed-spec =
     Inv-loop
     μ-loop
     loop-holds
-    slice-read-t18
+    (λ c. omega (arith, c .before .before .before .loop .inv .held .first .size))
     cast-v
     mul-colors
     slice-write-colors

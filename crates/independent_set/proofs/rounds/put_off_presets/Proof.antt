@@ -17,9 +17,6 @@ Inv-loop items ends starts entries presets listed₀ place₀ next₀ color reac
 abbrev μ-loop : tie.MeasureT-loop
 μ-loop items ends starts entries presets listed₀ place₀ next₀ color reached₀ v₀ listed place next reached v = items .count - v
 
-loop-holds : tie.Need-loop-holds Inv-loop μ-loop
-loop-holds c = search (needs, presets-none)
-
 put-off-neighbors-requires : tie.Need-put-off-neighbors-requires Inv-loop μ-loop
 put-off-neighbors-requires c κs = (c .before .before .before .before .before .before .before .before .before .before .before .before .before .before .before .before .pre .0, (held-at _ _ _ _ _ _ _ (c .before .before .before .before .before .before .before .before .loop .inv .1), c .before .before .before .before .before .before .if1 .taken))
 
@@ -38,7 +35,7 @@ put-off-presets-spec =
     (tie.spec
     Inv-loop
     μ-loop
-    loop-holds
+    (λ c. search (needs, presets-none))
     (λ c. search needs) (λ c. search needs) (λ c. search needs) (λ c. search needs)
     put-off-neighbors-requires
     (λ c. search needs)

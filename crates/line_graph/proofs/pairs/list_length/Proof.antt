@@ -16,20 +16,8 @@ Inv-loop n starts entries total₀ v₀ total v = (v ≤ n) × (total ≡ length
 abbrev μ-loop : tie.MeasureT-loop
 μ-loop n starts entries total₀ v₀ total v = n - v
 
-loop-holds : tie.Need-loop-holds Inv-loop μ-loop
-loop-holds c = (omega arith, count-start _ _, omega arith)
-
 bound : (c : tie.After-edges-at Inv-loop μ-loop) → length (c .edges-at .result .now) * length (c .edges-at .result .now) ≤ 16777216
 bound c = let l = c .before .before .loop in square-bound _ _ _ (l .v) (c .edges-at .ensures .0) (c .before .before .before .before .before .pre .1 (l .v) (c .before .loop-test .taken))
-
-mul-total : tie.Need-mul-total Inv-loop μ-loop
-mul-total c = omega (arith, bound c)
-
-sub-total : tie.Need-sub-total Inv-loop μ-loop
-sub-total c = omega (arith, square-covers (c .edges-at .result .now))
-
-add-total : tie.Need-add-total Inv-loop μ-loop
-add-total c = omega (arith, bound c, c .before .before .loop .inv .2)
 
 loop-again : tie.Need-loop-again Inv-loop μ-loop
 loop-again c =
@@ -46,11 +34,11 @@ list-length-spec =
     (tie.spec
     Inv-loop
     μ-loop
-    loop-holds
+    (λ c. (omega arith, count-start _ _, omega arith))
     (λ c. search needs) (λ c κs. search needs)
-    mul-total
-    sub-total
-    add-total
+    (λ c. omega (arith, bound c))
+    (λ c. omega (arith, square-covers (c .edges-at .result .now)))
+    (λ c. omega (arith, bound c, c .before .before .loop .inv .2))
     (λ c. search needs) (λ c. search needs)
     loop-again
     returns)

@@ -16,9 +16,6 @@ Inv-loop n starts entries list₀ place₀ v₀ list place v = (v ≤ n) × (len
 abbrev μ-loop : tie.MeasureT-loop
 μ-loop n starts entries list₀ place₀ v₀ list place v = n - v
 
-loop-holds : tie.Need-loop-holds Inv-loop μ-loop
-loop-holds c = (omega arith, refl, below-start _ _ _)
-
 write-pairs-of-requires : tie.Need-write-pairs-of-requires Inv-loop μ-loop
 write-pairs-of-requires c κs =
     let s = c .before .before .before .before .before .before .before in
@@ -43,7 +40,7 @@ write-pairs-spec =
     (tie.spec
     Inv-loop
     μ-loop
-    loop-holds
+    (λ c. (omega arith, refl, below-start _ _ _))
     (λ c. search needs) (λ c κs. search needs)
     write-pairs-of-requires
     (λ c. search needs) (λ c. search needs)

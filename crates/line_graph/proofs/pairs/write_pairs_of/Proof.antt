@@ -15,9 +15,6 @@ Inv-loop edges list₀ at place₀ i₀ list place i = (i ≤ length edges) × (
 abbrev μ-loop : tie.MeasureT-loop
 μ-loop edges list₀ at place₀ i₀ list place i = length edges - i
 
-loop-holds : tie.Need-loop-holds Inv-loop μ-loop
-loop-holds c = (omega arith, refl, of-start _ _ _)
-
 write-pairs-with-requires : tie.Need-write-pairs-with-requires Inv-loop μ-loop
 write-pairs-with-requires c κs =
     let s = c .before .before .before .before .before .before .before in
@@ -40,7 +37,7 @@ write-pairs-of-spec =
     (tie.spec
     Inv-loop
     μ-loop
-    loop-holds
+    (λ c. (omega arith, refl, of-start _ _ _))
     (λ c. search needs) (λ c. search needs) (λ c. search needs) (λ c. search needs) (λ c. search needs) (λ c. search needs) (λ c. search needs)
     write-pairs-with-requires
     (λ c. search needs)

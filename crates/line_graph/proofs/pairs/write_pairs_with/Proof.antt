@@ -17,12 +17,6 @@ Inv-loop edge later list₀ at i₀ list i = (i ≤ length later) × (length lis
 abbrev μ-loop : tie.MeasureT-loop
 μ-loop edge later list₀ at i₀ list i = length later - i
 
-loop-holds : tie.Need-loop-holds Inv-loop μ-loop
-loop-holds c = (omega arith, refl, with-none _ (c .args .later .now) _ _)
-
-slice-write-list-2 : tie.Need-slice-write-list-2 Inv-loop μ-loop
-slice-write-list-2 c = rw (length-set _ _ _) (omega arith)
-
 loop-again : tie.Need-loop-again Inv-loop μ-loop
 loop-again c = let l = c .before .before .loop in (omega arith, simp length-set (l .inv .1), with-next _ _ _ _ _ (l .i) _ (l .inv .2) (omega arith) (omega arith) refl)
 
@@ -35,9 +29,9 @@ write-pairs-with-spec =
     (tie.spec
     Inv-loop
     μ-loop
-    loop-holds
+    (λ c. (omega arith, refl, with-none _ (c .args .later .now) _ _))
     (λ c. search needs) (λ c. search needs) (λ c. search needs) (λ c. search needs) (λ c. search needs) (λ c. search needs) (λ c. search needs) (λ c. search needs)
-    slice-write-list-2
+    (λ c. rw (length-set _ _ _) (omega arith))
     (λ c. search needs) (λ c. search needs)
     loop-again
     (λ c. search needs) (λ c. search needs) (λ c. search needs)

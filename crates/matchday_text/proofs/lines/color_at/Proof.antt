@@ -9,9 +9,6 @@ use Rattle.matchday_text.proofs.lines.color_at.Tie as tie
 returns : tie.Need-returns
 returns c = color-read _ _ _ (c .before .if1 .taken)
 
-cast-result : tie.Need-cast-result
-cast-result c = omega (arith, c .shared-slice-known .given (c .before .before .before .args .edge .0))
-
 returns-2 : tie.Need-returns-2
 returns-2 c = sym (color-outside _ _ (c .if1 .left))
 
@@ -20,6 +17,6 @@ color-at-spec =
     tie.close
     (tie.spec
     (λ c. search needs) (λ c. search needs) (λ c. search needs)
-    cast-result
+    (λ c. omega (arith, c .shared-slice-known .given (c .before .before .before .args .edge .0)))
     returns
     returns-2)

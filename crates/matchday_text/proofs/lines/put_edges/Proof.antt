@@ -18,9 +18,6 @@ Inv-loop text₀ at ends colors m next₀ k₀ text next k = Put text₀ at (edg
 abbrev μ-loop : tie.MeasureT-loop
 μ-loop text₀ at ends colors m next₀ k₀ text next k = edgeCount ends - k
 
-loop-holds : tie.Need-loop-holds Inv-loop μ-loop
-loop-holds c = (line-none _ _ _ _, omega arith, refl)
-
 loop-again : tie.Need-loop-again Inv-loop μ-loop
 loop-again c =
     let l = c .before .before .before .before .before .loop in
@@ -38,7 +35,7 @@ put-edges-spec =
     (tie.spec
     Inv-loop
     μ-loop
-    loop-holds
+    (λ c. (line-none _ _ _ _, omega arith, refl))
     (λ c. omega (arith, c .before .before .before .before .before .before .pre .0, c .before .loop-test .taken))
     put-edge-requires
     (λ c. search needs) (λ c. search needs)

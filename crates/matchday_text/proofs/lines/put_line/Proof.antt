@@ -7,9 +7,6 @@ use Rattle.matchday_text.proofs.lines.put_line.Tie as tie
 returns : tie.Need-returns
 returns c = line-put _ _ _ _ _ _ (c .before .before .before .before .before .before .before .before .before .before .before .before .before .before .before .before .before .before .before .before .pre) _ _ (c .before .before .before .before .before .before .before .before .before .before .before .before .before .before .before .before .put-number .ensures) _ _ (c .before .before .before .before .before .before .before .before .before .before .before .put-number2 .ensures) _ _ (c .before .before .before .before .before .before .put-number3 .ensures) _ _ (c .before .before .put-number4 .ensures)
 
-put-number-requires : tie.Need-put-number-requires
-put-number-requires c κs = line-first (c .before .before .before .args .text .now) _ _ _ _ _ (c .before .before .before .pre)
-
 put-number-requires-2 : tie.Need-put-number-requires-2
 put-number-requires-2 c κs = line-second _ _ _ _ _ _ (c .before .before .before .before .before .before .before .before .pre) _ _ (c .before .before .before .before .put-number .ensures)
 
@@ -24,7 +21,7 @@ put-line-spec =
     tie.close
     (tie.spec
     (λ c. search needs)
-    put-number-requires
+    (λ c κs. line-first (c .before .before .before .args .text .now) _ _ _ _ _ (c .before .before .before .pre))
     (λ c. search needs)
     put-number-requires-2
     (λ c. search needs)

@@ -7,11 +7,8 @@ use Rattle.matchday_text.proofs.lines.put_refused.Tie as tie
 returns : tie.Need-returns
 returns c = refused-put _ _ (c .before .before .before .before .before .before .before .before .before .before .pre) _ _ (c .before .before .before .before .before .before .put-bytes .ensures) _ _ (c .before .before .put-number .ensures)
 
-put-bytes-requires : tie.Need-put-bytes-requires
-put-bytes-requires c κs = refused-word (c .before .before .before .args .text .now) _ (c .before .before .before .pre)
-
 put-number-requires : tie.Need-put-number-requires
 put-number-requires c κs = refused-number _ _ (c .before .before .before .before .before .before .before .pre) _ _ (c .before .before .before .put-bytes .ensures)
 
 pub put-refused-spec : {M : Type 1} → statement M
-put-refused-spec = tie.close (tie.spec (λ c. search needs) put-bytes-requires put-number-requires (λ c. search needs) returns)
+put-refused-spec = tie.close (tie.spec (λ c. search needs) (λ c κs. refused-word (c .before .before .before .args .text .now) _ (c .before .before .before .pre)) put-number-requires (λ c. search needs) returns)

@@ -16,9 +16,6 @@ Inv-loop text₀ at bytes next₀ i₀ text next i = (i ≤ length bytes) × (le
 abbrev μ-loop : tie.MeasureT-loop
 μ-loop text₀ at bytes next₀ i₀ text next i = length bytes - i
 
-loop-holds : tie.Need-loop-holds Inv-loop μ-loop
-loop-holds c = (omega arith, refl, put-none _ _)
-
 put-requires : tie.Need-put-requires Inv-loop μ-loop
 put-requires c κs = let l = c .before .before .before .loop in put-byte-room _ _ _ _ _ _ _ (c .before .before .loop-test .taken) (c .before .before .before .before .before .before .pre) (l .inv .2)
 
@@ -36,7 +33,7 @@ put-bytes-spec =
     (tie.spec
     Inv-loop
     μ-loop
-    loop-holds
+    (λ c. (omega arith, refl, put-none _ _))
     (λ c. search needs)
     put-requires
     (λ c. search needs)

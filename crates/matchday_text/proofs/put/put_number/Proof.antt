@@ -4,9 +4,6 @@ use Rattle.matchday_text.proofs.PutLaws.{number-room, number-last, numb
 use Rattle.matchday_text.proofs.put.put_number.Statement.{statement}
 use Rattle.matchday_text.proofs.put.put_number.Tie as tie
 
-put-decimal-requires : tie.Need-put-decimal-requires
-put-decimal-requires c κs = number-room _ _ _ (c .before .before .pre)
-
 put-requires : tie.Need-put-requires
 put-requires c κs = number-last _ _ _ _ _ _ (c .before .before .before .before .before .before .pre) (c .before .before .before .put-decimal .ensures)
 
@@ -14,4 +11,4 @@ returns : tie.Need-returns
 returns c = number-put _ _ _ _ _ _ _ _ (c .before .before .before .before .before .before .put-decimal .ensures) (c .before .before .put .ensures)
 
 pub put-number-spec : {M : Type 1} → statement M
-put-number-spec = tie.close (tie.spec put-decimal-requires put-requires (λ c. search needs) returns)
+put-number-spec = tie.close (tie.spec (λ c κs. number-room _ _ _ (c .before .before .pre)) put-requires (λ c. search needs) returns)

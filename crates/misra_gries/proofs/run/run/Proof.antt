@@ -17,32 +17,11 @@ Inv-loop n ends starts entries work₀ table₀ marks₀ m tally₀ k₀ work ta
 abbrev μ-loop : tie.MeasureT-loop
 μ-loop n ends starts entries work₀ table₀ marks₀ m tally₀ k₀ work table marks tally k = m - k
 
-loop-holds : tie.Need-loop-holds Inv-loop μ-loop
-loop-holds c = (c .before .before .before .before .before .before .pre, refl, refl, refl)
-
-cast-t19 : tie.Need-cast-t19 Inv-loop μ-loop
-cast-t19 c = search needs
-
 step-kept-requires : tie.Need-step-kept-requires Inv-loop μ-loop
 step-kept-requires c κs = let i = c .before .before .before .before .loop .inv .0 in (running-ready _ _ _ _ _ _ _ _ _ i (c .before .before .before .loop-test .taken), omega (arith, running-edges _ _ _ _ _ _ _ _ _ i, i .bound, i .admitted .edges))
 
-add-k : tie.Need-add-k Inv-loop μ-loop
-add-k c = search needs
-
-loop-less : tie.Need-loop-less Inv-loop μ-loop
-loop-less c = search needs
-
 loop-again : tie.Need-loop-again Inv-loop μ-loop
 loop-again c = (running-more _ _ _ _ _ _ _ _ _ (c .before .before .before .before .before .before .before .before .before .before .before .loop .inv .0) _ _ _ _ (c .before .before .before .before .before .before .before .before .before .before .loop-test .taken) (c .before .before .before .before .before .before .step-kept .ensures), c .before .before .before .before .before .before .step-kept .kept .1 .1 .1 .1 .1 .0 ∙ c .before .before .before .before .before .before .before .before .before .before .before .loop .inv .1, c .before .before .before .before .before .before .step-kept .kept .1 .1 .1 .1 .1 .1 .0 ∙ c .before .before .before .before .before .before .before .before .before .before .before .loop .inv .2, c .before .before .before .before .before .before .step-kept .kept .1 .1 .1 .1 .1 .1 .1 .0 ∙ c .before .before .before .before .before .before .before .before .before .before .before .loop .inv .3)
-
-same-length : tie.Need-same-length Inv-loop μ-loop
-same-length c = c .before .loop .inv .1
-
-same-length-2 : tie.Need-same-length-2 Inv-loop μ-loop
-same-length-2 c = c .before .loop .inv .2
-
-same-length-3 : tie.Need-same-length-3 Inv-loop μ-loop
-same-length-3 c = c .before .loop .inv .3
 
 returns : tie.Need-returns Inv-loop μ-loop
 returns c = let i = c .before .loop .inv .0 in let e : c .before .loop .k ≡ edgeCount (c .before .before .before .before .before .before .before .before .args .ends .now) = omega (arith, i .bound, c .loop-test .left) in rw e at i
@@ -53,13 +32,13 @@ run-spec =
     (tie.spec
     Inv-loop
     μ-loop
-    loop-holds
-    cast-t19
+    (λ c. (c .before .before .before .before .before .before .pre, refl, refl, refl))
+    (λ c. search needs)
     step-kept-requires
-    add-k
-    loop-less
+    (λ c. search needs)
+    (λ c. search needs)
     loop-again
-    same-length
-    same-length-2
-    same-length-3
+    (λ c. c .before .loop .inv .1)
+    (λ c. c .before .loop .inv .2)
+    (λ c. c .before .loop .inv .3)
     returns)

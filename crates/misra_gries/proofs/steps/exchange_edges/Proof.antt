@@ -21,12 +21,6 @@ followed f = path-followed _ _ _ _ _ _ (replicate 512 0) (f .follow .last .1 .1 
 room : (s : tie.After-swap-colors) → s .before .before .before .before .before .follow .result ≤ length (s .swap-colors .last .1 .1 .1 .1 .0)
 room s = omega (arith, s .swap-colors .kept .1 .1 .1 .1 .0, followed (s .before .before .before .before .before) .short)
 
-slice-aggregate-follow : tie.Need-slice-aggregate-follow
-slice-aggregate-follow c = sym (length-take-le _ (replicate 512 0) (c .before .before .before .before .before .pre .nodes))
-
-slice-aggregate-repaint-2 : tie.Need-slice-aggregate-repaint-2
-slice-aggregate-repaint-2 c = sym (length-take-le _ _ (room (c .before .before .before .before .before)))
-
 returns : tie.Need-returns
 returns c =
     let f = followed (c .before .before .before .before .before .before .before .before .before .before .before .before .before .before .before) in
@@ -37,12 +31,12 @@ exchange-edges-spec =
     tie.close
     (tie.spec
     (λ c. search needs)
-    slice-aggregate-follow
+    (λ c. sym (length-take-le _ (replicate 512 0) (c .before .before .before .before .before .pre .nodes)))
     (λ c κs. tt)
     (λ c. followed (c .before .before) .inside) (λ c. followed (c .before .before .before) .filled)
     (λ c. refl) (λ c κs. tt)
     (λ c. followed (c .before .before .before .before .before .before .before .before) .inside) (λ c. followed (c .before .before .before .before .before .before .before .before .before) .filled)
     (λ c. room (c .before .before .before .before))
-    slice-aggregate-repaint-2
+    (λ c. sym (length-take-le _ _ (room (c .before .before .before .before .before))))
     (λ c κs. tt) (λ c. c .before .before .before .before .repaint .kept .1 .0) (λ c. c .before .before .before .before .repaint .kept .1 .1 .0)
     returns)

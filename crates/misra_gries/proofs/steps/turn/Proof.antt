@@ -8,24 +8,6 @@ use native.Mathlib.Omega.{arith}
 use Rattle.misra_gries.proofs.steps.turn.Statement.{statement}
 use Rattle.misra_gries.proofs.steps.turn.Tie as tie
 
-sub-last : tie.Need-sub-last
-sub-last c = turn-fan _ _ _ _ _ _ _ _ (c .before .before .before .before .pre)
-
-mul-t15 : tie.Need-mul-t15
-mul-t15 c = search needs
-
-shared-slice-read-t17 : tie.Need-shared-slice-read-t17
-shared-slice-read-t17 c = omega (arith, turn-fan _ _ _ _ _ _ _ _ (c .before .before .before .before .before .pre))
-
-far-end-requires : tie.Need-far-end-requires
-far-end-requires c κs = tt
-
-smallest-free-requires : tie.Need-smallest-free-requires
-smallest-free-requires c κs = tt
-
-smallest-free-requires-2 : tie.Need-smallest-free-requires-2
-smallest-free-requires-2 c κs = tt
-
 exchange-path-requires : tie.Need-exchange-path-requires
 exchange-path-requires c κs =
     let d-place = c .before .before in
@@ -34,9 +16,6 @@ exchange-path-requires c κs =
     let read-place = far-place .before in
     let entry = read-place .before .before .before .before .before in
     turn-exchanging _ _ _ _ _ _ _ _ (entry .pre) _ _ _ (far-place .far-end .ensures) (c-place .smallest-free .ensures) (d-place .smallest-free2 .ensures)
-
-places-to-requires : tie.Need-places-to-requires
-places-to-requires c κs = tt
 
 slice-aggregate-rotate-fan : tie.Need-slice-aggregate-rotate-fan
 slice-aggregate-rotate-fan c =
@@ -126,14 +105,14 @@ pub turn-spec : {M : Type 1} → statement M
 turn-spec =
     tie.close
     (tie.spec
-    sub-last
-    mul-t15
-    shared-slice-read-t17
-    far-end-requires
-    smallest-free-requires
-    smallest-free-requires-2
+    (λ c. turn-fan _ _ _ _ _ _ _ _ (c .before .before .before .before .pre))
+    (λ c. search needs)
+    (λ c. omega (arith, turn-fan _ _ _ _ _ _ _ _ (c .before .before .before .before .before .pre)))
+    (λ c κs. tt)
+    (λ c κs. tt)
+    (λ c κs. tt)
     exchange-path-requires
-    places-to-requires
+    (λ c κs. tt)
     slice-aggregate-rotate-fan
     rotate-fan-requires
     same-length

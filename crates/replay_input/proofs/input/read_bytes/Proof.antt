@@ -15,9 +15,6 @@ Inv-loop buffer₀ bytes₀ count here₀ i₀ buffer bytes here i = (length buf
 abbrev μ-loop : tie.MeasureT-loop
 μ-loop buffer₀ bytes₀ count here₀ i₀ buffer bytes here i = count - i
 
-loop-again : tie.Need-loop-again Inv-loop μ-loop
-loop-again c = (search needs, simp length-set (omega arith), search needs, search needs)
-
 returns : tie.Need-returns Inv-loop μ-loop
 returns c = (counts _ _ (omega arith), omega arith)
 
@@ -29,6 +26,6 @@ read-bytes-spec =
     μ-loop
     (λ c κs. search needs) (λ c κs. search needs) (λ c. search needs) (λ c κs. search needs) (λ c κs. search needs)
     (λ c. search needs) (λ c. search needs) (λ c. search needs)
-    loop-again
+    (λ c. (search needs, simp length-set (omega arith), search needs, search needs))
     (λ c. search needs) (λ c. search needs)
     returns)

@@ -25,9 +25,6 @@ returns-2 : tie.Need-returns-2 Inv-loop μ-loop
 returns-2 c =
     ((λ e. absurd (false≢true e)), λ e. absurd (c .if2 .taken (ap (λ (l : List ℕ). getD l (c .before .before .before .before .loop .i) 0) e)))
 
-loop-again : tie.Need-loop-again Inv-loop μ-loop
-loop-again c = (search needs, below-more _ _ (c .before .before .before .before .loop .inv .1) (c .if2 .left))
-
 returns-3 : tie.Need-returns-3 Inv-loop μ-loop
 returns-3 c =
     ((λ e. ext-getD 0 _ _ (c .before .before .if1 .left) (λ k h. c .before .loop .inv .1 k (omega arith))), λ e. refl)
@@ -42,5 +39,5 @@ same-spec =
     (λ c. search needs) (λ c. search needs) (λ c. search needs)
     returns-2
     (λ c. search needs) (λ c. search needs)
-    loop-again
+    (λ c. (search needs, below-more _ _ (c .before .before .before .before .loop .inv .1) (c .if2 .left)))
     returns-3)

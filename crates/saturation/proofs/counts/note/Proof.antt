@@ -8,9 +8,6 @@ use Rattle.saturation.proofs.counts.note.Tie as tie
 returns : tie.Need-returns
 returns c = note-colored _ _ _ _ _ (c .before .before .before .pre .0 .0) (c .if1 .taken)
 
-sub-waiting : tie.Need-sub-waiting
-sub-waiting c = c .before .before .before .before .pre .1 (c .before .if1 .left) .0
-
 add-saturations : tie.Need-add-saturations
 add-saturations c = omega (arith, c .before .before .before .before .before .before .before .pre .1 (c .before .before .before .before .if1 .left) .1 (c .before .if2 .taken))
 
@@ -27,7 +24,7 @@ note-spec =
     (λ c. search needs) (λ c. search needs) (λ c. search needs)
     returns
     (λ c. search needs) (λ c. search needs)
-    sub-waiting
+    (λ c. c .before .before .before .before .pre .1 (c .before .if1 .left) .0)
     (λ c. search needs) (λ c. search needs) (λ c. search needs) (λ c. search needs)
     add-saturations
     (λ c. search needs) (λ c. search needs) (λ c. search needs) (λ c. search needs) (λ c. search needs)

@@ -18,17 +18,11 @@ Inv-loop kind n ends starts entries colors₀ waiting₀ v₀ colors waiting v =
 abbrev μ-loop : tie.MeasureT-loop
 μ-loop kind n ends starts entries colors₀ waiting₀ v₀ colors waiting v = length colors₀ - v
 
-loop-holds : tie.Need-loop-holds Inv-loop μ-loop
-loop-holds c = (omega arith, refl, refl, started-none _ _ _)
-
 cast-waiting : tie.Need-cast-waiting Inv-loop μ-loop
 cast-waiting c = omega (arith, c .loop-test .taken, c .before .loop .inv .1, items-few _ _ _ _ (c .before .before .before .before .before .before .before .pre .0 .sized))
 
 cast-waiting-2 : tie.Need-cast-waiting-2 Inv-loop μ-loop
 cast-waiting-2 c = omega (arith, neighbors-few _ _ _ _ _ _ (c .before .before .before .before .before .before .before .before .pre .0) _ _ (omega (arith, c .before .loop-test .taken, c .before .before .loop .inv .1)) (c .neighbor-count .ensures ∙ neighbors-counted _ _ _ _ _ _ (c .before .before .before .before .before .before .before .before .pre .0) _ (omega (arith, c .before .loop-test .taken, c .before .before .loop .inv .1))))
-
-loop-less : tie.Need-loop-less Inv-loop μ-loop
-loop-less c = omega (arith, c .before .loop-test .taken, c .before .before .loop .inv .1)
 
 loop-again : tie.Need-loop-again Inv-loop μ-loop
 loop-again c = (omega (arith, c .before .loop-test .taken, c .before .before .loop .inv .1), search needs, search needs, started-more _ _ _ _ _ (c .before .before .loop .inv .3) (omega (arith, c .before .loop-test .taken)) (omega (arith, c .before .loop-test .taken, c .before .before .loop .inv .1, c .before .before .loop .inv .2, c .before .before .before .before .before .before .before .before .pre .1)) (c .neighbor-count .ensures ∙ neighbors-counted _ _ _ _ _ _ (c .before .before .before .before .before .before .before .before .pre .0) _ (omega (arith, c .before .loop-test .taken, c .before .before .loop .inv .1))))
@@ -42,12 +36,12 @@ start-spec =
     (tie.spec
     Inv-loop
     μ-loop
-    loop-holds
+    (λ c. (omega arith, refl, refl, started-none _ _ _))
     cast-waiting
     (λ c κs. search needs) (λ c. search needs) (λ c. search needs)
     cast-waiting-2
     (λ c. search needs) (λ c. search needs) (λ c. search needs)
-    loop-less
+    (λ c. omega (arith, c .before .loop-test .taken, c .before .before .loop .inv .1))
     loop-again
     (λ c. search needs) (λ c. search needs)
     returns)

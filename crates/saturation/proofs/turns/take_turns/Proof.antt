@@ -21,9 +21,6 @@ abbrev μ-loop : tie.MeasureT-loop
 loop-holds : tie.Need-loop-holds Inv-loop μ-loop
 loop-holds c = (omega arith, refl, refl, refl, c .before .before .before .before .before .before .pre, turns-none _ _ _)
 
-turn-requires : tie.Need-turn-requires Inv-loop μ-loop
-turn-requires c κs = c .before .before .before .before .loop .inv .4
-
 loop-less : tie.Need-loop-less Inv-loop μ-loop
 loop-less c = omega (arith, c .before .before .before .before .before .before .before .before .before .before .loop-test .taken, c .before .before .before .before .before .before .before .before .before .before .before .loop .inv .1)
 
@@ -43,7 +40,7 @@ take-turns-spec =
     Inv-loop
     μ-loop
     loop-holds
-    turn-requires
+    (λ c κs. c .before .before .before .before .loop .inv .4)
     (λ c. search needs)
     loop-less
     loop-again

@@ -7,9 +7,6 @@ use Rattle.two_color.proofs.ComponentsLaws.{join-inside, join-room, joi
 use Rattle.two_color.proofs.components.join.Statement.{statement}
 use Rattle.two_color.proofs.components.join.Tie as tie
 
-root-of-requires : tie.Need-root-of-requires
-root-of-requires c κs = (c .before .before .before .before .pre .0, c .before .before .before .before .pre .1 .0)
-
 root-of-requires-2 : tie.Need-root-of-requires-2
 root-of-requires-2 c κs = (c .before .before .before .before .before .before .root-of .ensures .forest, omega (arith, c .before .before .before .before .before .before .before .before .before .before .before .pre .1 .1, c .before .before .before .before .before .before .root-of .kept .0))
 
@@ -42,7 +39,7 @@ pub join-spec : {M : Type 1} → statement M
 join-spec =
     tie.close
     (tie.spec
-    root-of-requires
+    (λ c κs. (c .before .before .before .before .pre .0, c .before .before .before .before .pre .1 .0))
     root-of-requires-2
     same-length
     same-length-2

@@ -15,21 +15,6 @@ Inv-loop up₀ flips₀ x₀ odd₀ up flips x odd = Climbs up₀ flips₀ x₀ 
 abbrev μ-loop : tie.MeasureT-loop
 μ-loop up₀ flips₀ x₀ odd₀ up flips x odd = x
 
-loop-holds : tie.Need-loop-holds Inv-loop μ-loop
-loop-holds c = (climb-none _ _ _ (c .before .pre .0) (c .before .pre .1), refl)
-
-cast-next : tie.Need-cast-next Inv-loop μ-loop
-cast-next c = omega (arith, c .slice-known .given (c .before .loop .x))
-
-mul-above : tie.Need-mul-above Inv-loop μ-loop
-mul-above c = omega (arith, c .slice-known .given (c .before .loop .x))
-
-slice-read-above : tie.Need-slice-read-above Inv-loop μ-loop
-slice-read-above c = next-inside _ _ _ _ _ _ _ (c .before .before .loop .inv .0)
-
-slice-read-to-next : tie.Need-slice-read-to-next Inv-loop μ-loop
-slice-read-to-next c = let i = c .before .before .before .loop .inv .0 in omega (arith, i .inside, i .forest .size)
-
 cast-if1 : tie.Need-cast-if1 Inv-loop μ-loop
 cast-if1 c = omega (arith, c .before .slice-known2 .given (getD (c .before .before .before .loop .up) (c .before .before .before .loop .x) 0))
 
@@ -60,12 +45,12 @@ root-of-spec =
     Inv-loop
     μ-loop
     (λ c. omega arith)
-    loop-holds
+    (λ c. (climb-none _ _ _ (c .before .pre .0) (c .before .pre .1), refl))
     (λ c. omega arith) (λ c. c .before .loop .inv .0 .inside)
-    cast-next
-    mul-above
-    slice-read-above
-    slice-read-to-next
+    (λ c. omega (arith, c .slice-known .given (c .before .loop .x)))
+    (λ c. omega (arith, c .slice-known .given (c .before .loop .x)))
+    (λ c. next-inside _ _ _ _ _ _ _ (c .before .before .loop .inv .0))
+    (λ c. let i = c .before .before .before .loop .inv .0 in omega (arith, i .inside, i .forest .size))
     cast-if1
     (λ c. c .before .before .before .before .loop .inv .0 .size) (λ c. c .before .before .before .before .loop .inv .1)
     returns

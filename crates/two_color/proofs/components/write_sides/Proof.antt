@@ -13,15 +13,6 @@ Inv-loop n up flips sides₀ v₀ sides v = Colored n up flips sides₀ sides v
 abbrev μ-loop : tie.MeasureT-loop
 μ-loop n up flips sides₀ v₀ sides v = n - v
 
-loop-holds : tie.Need-loop-holds Inv-loop μ-loop
-loop-holds c = colored-none _ _ _ _ (c .before .before .before .pre .0) (c .before .before .before .pre .1)
-
-cast-above : tie.Need-cast-above Inv-loop μ-loop
-cast-above c = omega (arith, c .shared-slice-known3 .given (c .before .before .loop .v))
-
-mul-side-under : tie.Need-mul-side-under Inv-loop μ-loop
-mul-side-under c = omega (arith, c .before .shared-slice-known3 .given (c .before .before .before .loop .v))
-
 slice-read-side-under : tie.Need-slice-read-side-under Inv-loop μ-loop
 slice-read-side-under c = above-colored _ _ _ _ _ _ (c .before .before .before .before .loop .inv) (c .before .before .before .loop-test .taken) (c .before .if1 .left)
 
@@ -43,11 +34,11 @@ write-sides-spec =
     (tie.spec
     Inv-loop
     μ-loop
-    loop-holds
+    (λ c. colored-none _ _ _ _ (c .before .before .before .pre .0) (c .before .before .before .pre .1))
     (λ c. omega arith) (λ c. omega arith)
-    cast-above
+    (λ c. omega (arith, c .shared-slice-known3 .given (c .before .before .loop .v)))
     (λ c. omega arith) (λ c. omega arith)
-    mul-side-under
+    (λ c. omega (arith, c .before .shared-slice-known3 .given (c .before .before .before .loop .v)))
     slice-read-side-under
     (λ c. omega (arith, c .before .before .before .before .before .loop .inv .forest .size))
     side-under-requires
