@@ -11,9 +11,7 @@ returns-2 : tie.Need-returns-2
 returns-2 c = file-refused (_, _, _) _ _ _ (c .before .before .file2 .given .1) (c .number .ensures)
 
 pub answer-file-spec : {M : Type 1} → statement M
-answer-file-spec =
-    tie.close
-    (tie.spec
+answer-file-spec = tie.close (tie.spec
     (λ c. search needs) (λ c. search needs) (λ c. search needs) (λ c κs. search needs)
     returns
     returns-2)

@@ -11,9 +11,7 @@ returns-2 : tie.Need-returns-2
 returns-2 c = nodes-unknown _ _ (c .before .before .before .before .strategy-of .ensures) _ _ _ _ (c .before .before .enum-told .given .1) (c .before .check-nodes .result) _ _ (c .unknown-strategy .ensures) (c .before .check-nodes .ensures)
 
 pub wg-greedy-node-color-with-coloring-strategy-spec : {M : Type 1} → statement M
-wg-greedy-node-color-with-coloring-strategy-spec =
-    tie.close
-    (tie.spec
+wg-greedy-node-color-with-coloring-strategy-spec = tie.close (tie.spec
     (λ c κs. search needs) (λ c. search needs) (λ c κs. search needs) (λ c κs. search needs) (λ c. search needs) (λ c κs. search needs) (λ c κs. search needs) (λ c. search needs)
     returns
     returns-2)

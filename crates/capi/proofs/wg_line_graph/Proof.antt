@@ -8,8 +8,6 @@ returns : tie.Need-returns
 returns c = let t = told _ _ _ _ (c .answer-line-list .ensures .0) (c .answer-line-list .ensures .1) _ (c .before .before .before .before .line-graph .ensures .0) in (t .0, (c .before .before .before .before .line-graph .ensures .1, t .1))
 
 pub wg-line-graph-spec : {M : Type 1} → statement M
-wg-line-graph-spec =
-    tie.close
-    (tie.spec
+wg-line-graph-spec = tie.close (tie.spec
     (λ c κs. search needs) (λ c κs. search needs) (λ c. search needs)
     returns)

@@ -8,8 +8,6 @@ returns : tie.Need-returns
 returns c = let t = told-file _ (_, _, _) (_, _, _) _ _ (c .before .before .before .before .before .before .read-graph-file .ensures .0) (c .answer-file .ensures) in (t .0, (c .before .before .before .before .before .before .read-graph-file .ensures .1 .0, t .1))
 
 pub wg-read-graph-file-spec : {M : Type 1} → statement M
-wg-read-graph-file-spec =
-    tie.close
-    (tie.spec
+wg-read-graph-file-spec = tie.close (tie.spec
     (λ c κs. search needs) (λ c κs. search needs) (λ c. search needs)
     returns)

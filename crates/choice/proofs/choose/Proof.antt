@@ -55,11 +55,7 @@ returns-5 c =
     choice-none _ _ _ (most .before .before .before .if1 .left) (most .before .before .if2 .left) (most .before .if3 .left) _ _ (most .greatest .ensures) (at-loop .before .greatest-among .ensures) _ (at-loop .loop .inv .0) (at-loop .loop .inv .1) (c .loop-test .left)
 
 pub choose-spec : {M : Type 1} → statement M
-choose-spec =
-    tie.close
-    (tie.spec
-    Inv-loop
-    μ-loop
+choose-spec = tie.close (tie.spec Inv-loop μ-loop
     returns
     returns-2
     returns-3

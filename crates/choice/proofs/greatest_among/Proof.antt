@@ -25,11 +25,7 @@ returns : tie.Need-returns Inv-loop μ-loop
 returns c = greatest-all _ _ _ _ (c .before .loop .inv .1) (c .before .loop .inv .0) (c .loop-test .left)
 
 pub greatest-among-spec : {M : Type 1} → statement M
-greatest-among-spec =
-    tie.close
-    (tie.spec
-    Inv-loop
-    μ-loop
+greatest-among-spec = tie.close (tie.spec Inv-loop μ-loop
     (λ c. (omega arith, greatest-none _))
     (λ c. search needs) (λ c. search needs) (λ c. search needs) (λ c. search needs) (λ c κs. tt) (λ c. search needs) (λ c. search needs)
     loop-again

@@ -17,9 +17,7 @@ returns-4 : tie.Need-returns-4
 returns-4 c = asked-no _ _ _ _ _ _ _ _ (c .before .before .before .before .before .before .before .before .before .before .before .pre) (c .before .before .before .before .if1 .left) _ (c .before .stands-at2 .ensures) (c .if3 .left)
 
 pub ask-spec : {M : Type 1} → statement M
-ask-spec =
-    tie.close
-    (tie.spec
+ask-spec = tie.close (tie.spec
     (λ c. search needs) (λ c κs. search needs)
     returns
     (λ c. search needs) (λ c. search needs)

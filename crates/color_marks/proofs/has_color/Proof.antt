@@ -16,11 +16,7 @@ abbrev μ-loop : tie.MeasureT-loop
 μ-loop colors color v₀ v = length colors - v
 
 pub has-color-spec : {M : Type 1} → statement M
-has-color-spec =
-    tie.close
-    (tie.spec
-    Inv-loop
-    μ-loop
+has-color-spec = tie.close (tie.spec Inv-loop μ-loop
     (λ c. search needs) (λ c. search needs) (λ c. search needs)
     (λ c. search (needs, used-here))
     (λ c. search needs) (λ c. search needs)

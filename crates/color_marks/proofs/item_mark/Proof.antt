@@ -20,9 +20,7 @@ returns-5 : tie.Need-returns-5
 returns-5 c = (mark-neither _ _ _ _ _ _ _ (c .before .before .before .before .before .before .before .before .before .before .before .before .before .before .if1 .left) (c .before .before .before .before .before .before .before .before .before .before .before .before .if2 .left) _ (c .before .before .before .before .before .before .before .before .before .before .before .first-node .ensures) _ (c .before .before .before .before .before .before .before .before .before .ask .ensures .0) _ (c .before .before .before .before .before .second-node .ensures) _ (c .before .before .before .ask2 .ensures .0) (c .before .before .before .before .before .before .if3 .left) (c .if4 .left), c .before .before .before .ask2 .ensures .1)
 
 pub item-mark-spec : {M : Type 1} → statement M
-item-mark-spec =
-    tie.close
-    (tie.spec
+item-mark-spec = tie.close (tie.spec
     (λ c. search needs)
     returns
     (λ c. search needs) (λ c. search needs)

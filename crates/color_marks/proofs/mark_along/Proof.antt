@@ -29,11 +29,7 @@ returns : tie.Need-returns Inv-loop μ-loop
 returns c = (along-all _ _ _ _ _ _ _ _ (c .before .loop .inv .4) (c .before .loop .inv .0) (c .loop-test .left), c .before .loop .inv .3)
 
 pub mark-along-spec : {M : Type 1} → statement M
-mark-along-spec =
-    tie.close
-    (tie.spec
-    Inv-loop
-    μ-loop
+mark-along-spec = tie.close (tie.spec Inv-loop μ-loop
     loop-holds
     (λ c. search needs) (λ c. search needs) (λ c κs. search needs) (λ c. search needs)
     (λ c κs. c .before .before .before .before .loop .inv .3)

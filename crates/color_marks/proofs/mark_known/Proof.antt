@@ -11,9 +11,7 @@ returns-2 : tie.Need-returns-2
 returns-2 c = both-stored _ _ _ _ _ _ _ (c .before .before .before .before .before .before .before .before .before .before .before .before .before .before .before .before .before .before .first-node .ensures) (c .before .before .before .before .before .before .before .before .before .before .before .before .before .before .before .before .before .second-node .ensures) _ _ (c .before .before .before .before .before .before .before .before .before .before .before .before .before .before .before .before .edges-at .ensures .0) _ _ (c .before .before .before .before .before .before .before .before .before .before .before .before .before .mark-along .ensures .0) (c .before .before .before .before .before .before .before .if1 .left) _ (c .before .before .before .before .before .before .edges-at2 .ensures .0) _ (c .before .before .before .mark-along2 .ensures .0)
 
 pub mark-known-spec : {M : Type 1} → statement M
-mark-known-spec =
-    tie.close
-    (tie.spec
+mark-known-spec = tie.close (tie.spec
     (λ c κs. search needs) (λ c κs. search needs) (λ c κs. search needs) (λ c. search needs)
     (λ c κs. asked-none _ _ _ _ _ _)
     (λ c. search needs)

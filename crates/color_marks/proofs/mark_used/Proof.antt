@@ -11,9 +11,7 @@ returns-2 : tie.Need-returns-2
 returns-2 c = unused-kept _ _ _ _ _ _ _ _ _ (c .before .has-color .ensures) (c .if1 .left)
 
 pub mark-used-spec : {M : Type 1} → statement M
-mark-used-spec =
-    tie.close
-    (tie.spec
+mark-used-spec = tie.close (tie.spec
     (λ c κs. search needs) (λ c κs. search needs) (λ c. search needs)
     returns
     returns-2)

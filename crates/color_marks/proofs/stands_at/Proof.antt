@@ -30,11 +30,7 @@ returns-2 : tie.Need-returns-2 Inv-loop μ-loop
 returns-2 c = stands-nowhere _ _ _ _ _ _ _ (c .before .loop .inv .1) (c .loop-test .left) _ (c .before .before .edges-at .ensures .0)
 
 pub stands-at-spec : {M : Type 1} → statement M
-stands-at-spec =
-    tie.close
-    (tie.spec
-    Inv-loop
-    μ-loop
+stands-at-spec = tie.close (tie.spec Inv-loop μ-loop
     (λ c κs. search needs)
     (λ c. search (needs, stands-none))
     (λ c. search needs) (λ c. search needs) (λ c. search needs) (λ c κs. search needs) (λ c. search needs) (λ c. search needs) (λ c. search needs)

@@ -27,9 +27,7 @@ returns-2 c =
     call-accepted (a .kind) _ _ (a .presets .now) (a .colors .now) _ (at-checks .check-items .ensures) degreeColors _ (at-graph .-graph .given .1) _ _ (at-days .color-items .ensures .1) (at-days .color-items .ensures .0)
 
 pub color-spec : {M : Type 1} → statement M
-color-spec =
-    tie.close
-    (tie.spec
+color-spec = tie.close (tie.spec
     (λ c κs. search needs) (λ c. search needs)
     returns
     (λ c. search needs)

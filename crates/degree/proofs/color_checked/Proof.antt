@@ -53,9 +53,7 @@ returns c =
     (c .days-of .ensures, degree-colored _ _ _ _ _ _ _ (p .1 .0 .0) (p .1 .0 .1) order (at-copy .copy-colors .ensures) (at-turns .color-in-order .ensures))
 
 pub color-checked-spec : {M : Type 1} → statement M
-color-checked-spec =
-    tie.close
-    (tie.spec
+color-checked-spec = tie.close (tie.spec
     (λ c. search needs) (λ c. search needs) (λ c κs. search needs) (λ c. search needs) (λ c. search needs)
     note-degrees-requires
     falling-order-requires

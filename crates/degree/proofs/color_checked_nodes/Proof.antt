@@ -11,9 +11,7 @@ color-checked-requires c κs =
     (p .0, (p .1, nodes-room _ _ (p .0)))
 
 pub color-checked-nodes-spec : {M : Type 1} → statement M
-color-checked-nodes-spec =
-    tie.close
-    (tie.spec
+color-checked-nodes-spec = tie.close (tie.spec
     (λ c. search needs) (λ c. search needs) (λ c. search needs)
     color-checked-requires
     (λ c. search needs) (λ c. search needs))

@@ -42,11 +42,7 @@ returns : tie.Need-returns Inv-loop μ-loop
 returns c = turns-done _ _ _ _ (c .before .loop .inv .3) (c .loop-test .left)
 
 pub color-each-spec : {M : Type 1} → statement M
-color-each-spec =
-    tie.close
-    (tie.spec
-    Inv-loop
-    μ-loop
+color-each-spec = tie.close (tie.spec Inv-loop μ-loop
     (λ c. search needs) (λ c. search needs) (λ c. search needs) (λ c κs. search needs)
     cast-colors
     mul-colors

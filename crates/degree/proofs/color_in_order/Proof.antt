@@ -27,9 +27,7 @@ returns-2 c =
     kind-turns _ _ (at-kind .enum-told2 .given .1) _ _ _ _ _ (c .before .before .color-each2 .ensures)
 
 pub color-in-order-spec : {M : Type 1} → statement M
-color-in-order-spec =
-    tie.close
-    (tie.spec
+color-in-order-spec = tie.close (tie.spec
     (λ c. search needs)
     color-each-requires
     (λ c. search needs)

@@ -31,9 +31,7 @@ returns-2 c =
     (e .0, kind-colored _ _ (at-kind .enum-told2 .given .1) _ _ _ _ (e .1))
 
 pub color-items-spec : {M : Type 1} → statement M
-color-items-spec =
-    tie.close
-    (tie.spec
+color-items-spec = tie.close (tie.spec
     (λ c. search needs)
     color-checked-nodes-requires
     (λ c. search needs)

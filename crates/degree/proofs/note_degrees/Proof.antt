@@ -44,11 +44,7 @@ returns : tie.Need-returns Inv-loop μ-loop
 returns c = λ v h. c .before .loop .inv .2 v (omega arith)
 
 pub note-degrees-spec : {M : Type 1} → statement M
-note-degrees-spec =
-    tie.close
-    (tie.spec
-    Inv-loop
-    μ-loop
+note-degrees-spec = tie.close (tie.spec Inv-loop μ-loop
     (λ c. search needs)
     cast-item
     (λ c κs. search needs)

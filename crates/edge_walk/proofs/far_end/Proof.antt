@@ -11,9 +11,7 @@ returns-2 : tie.Need-returns-2
 returns-2 c = far-read-first _ _ _ _ (c .before .before .before .end-at .ensures) (c .if1 .left)
 
 pub far-end-spec : {M : Type 1} → statement M
-far-end-spec =
-    tie.close
-    (tie.spec
+far-end-spec = tie.close (tie.spec
     (λ c. search needs) (λ c. search needs) (λ c κs. search needs) (λ c. search needs) (λ c. search needs) (λ c κs. search needs)
     returns
     returns-2)

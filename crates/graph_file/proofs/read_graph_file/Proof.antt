@@ -41,9 +41,7 @@ copy-numbers-requires c κs =
     room _ (c .before .before .before .before .before .before .before .before .before .args .ends .now) _ (l .0) _ (c .before .before .before .before .file .given .1) (l .1) (c .before .before .if1 .left)
 
 pub read-graph-file-spec : {M : Type 1} → statement M
-read-graph-file-spec =
-    tie.close
-    (tie.spec
+read-graph-file-spec = tie.close (tie.spec
     (λ c κs. search needs) (λ c. search needs)
     returns
     (λ c. search needs)

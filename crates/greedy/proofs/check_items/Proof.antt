@@ -17,9 +17,7 @@ returns-4 : tie.Need-returns-4
 returns-4 c = checks-pass _ _ _ _ _ _ _ (c .before .before .before .before .before .check-graph .ensures) (c .before .before .before .graph .given .1) (c .before .if1 .left) (c .if2 .left)
 
 pub check-items-spec : {M : Type 1} → statement M
-check-items-spec =
-    tie.close
-    (tie.spec
+check-items-spec = tie.close (tie.spec
     (λ c κs. search needs) (λ c. search needs)
     returns
     (λ c. search needs)

@@ -15,9 +15,7 @@ returns-2 : tie.Need-returns-2
 returns-2 c = edges-without-presets _ _ 4096 _ _ _ _ refl (λ h e. omega (arith, h .edges)) (c .before .before .color2 .ensures .0) (c .before .before .color2 .ensures .1)
 
 pub greedy-edge-color-spec : {M : Type 1} → statement M
-greedy-edge-color-spec =
-    tie.close
-    (tie.spec
+greedy-edge-color-spec = tie.close (tie.spec
     (λ c. search needs)
     (λ c. presets-part _ 4096 _ (omega arith))
     (λ c κs. search needs) (λ c. search needs) (λ c κs. search needs) (λ c. search needs)

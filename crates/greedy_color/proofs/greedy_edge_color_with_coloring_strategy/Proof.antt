@@ -16,9 +16,7 @@ returns-3 : tie.Need-returns-3
 returns-3 c = edges-by-strategy _ S.IndependentSet (c .before .before .before .before .enum-told3 .given .1) independent-set-rule _ _ _ _ _ _ (c .before .before .color-edges .ensures .0) (c .before .before .color-edges .ensures .1)
 
 pub greedy-edge-color-with-coloring-strategy-spec : {M : Type 1} → statement M
-greedy-edge-color-with-coloring-strategy-spec =
-    tie.close
-    (tie.spec
+greedy-edge-color-with-coloring-strategy-spec = tie.close (tie.spec
     (λ c. search needs) (λ c κs. search needs) (λ c. search needs) (λ c κs. search needs) (λ c. search needs) (λ c κs. search needs) (λ c. search needs)
     returns
     (λ c. search needs)

@@ -15,9 +15,7 @@ returns-2 : tie.Need-returns-2
 returns-2 c = nodes-without-presets _ _ 512 _ _ _ _ refl (λ h e. omega (arith, h .nodes)) (c .before .before .color2 .ensures .0) (c .before .before .color2 .ensures .1)
 
 pub greedy-node-color-spec : {M : Type 1} → statement M
-greedy-node-color-spec =
-    tie.close
-    (tie.spec
+greedy-node-color-spec = tie.close (tie.spec
     (λ c. search needs)
     (λ c. presets-part _ 512 _ (omega arith))
     (λ c κs. search needs) (λ c. search needs) (λ c κs. search needs) (λ c. search needs)

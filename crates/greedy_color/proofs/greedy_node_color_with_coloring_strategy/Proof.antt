@@ -16,9 +16,7 @@ returns-3 : tie.Need-returns-3
 returns-3 c = by-strategy _ S.IndependentSet (c .before .before .before .before .enum-told3 .given .1) independent-set-rule _ _ _ _ _ _ (c .before .before .color-nodes .ensures .0) (c .before .before .color-nodes .ensures .1)
 
 pub greedy-node-color-with-coloring-strategy-spec : {M : Type 1} → statement M
-greedy-node-color-with-coloring-strategy-spec =
-    tie.close
-    (tie.spec
+greedy-node-color-with-coloring-strategy-spec = tie.close (tie.spec
     (λ c. search needs) (λ c κs. search needs) (λ c. search needs) (λ c κs. search needs) (λ c. search needs) (λ c κs. search needs) (λ c. search needs)
     returns
     (λ c. search needs)

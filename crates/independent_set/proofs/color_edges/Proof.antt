@@ -19,9 +19,7 @@ unfolding neighborsOf
 returns-2 c = edges-yes independentSetColors _ _ _ _ _ _ (c .before .before .before .before .before .before .before .before .check-edges .ensures) (c .before .before .before .before .before .before .enum-told .given .1) _ _ (c .before .before .before .before .color-checked .ensures) (c .days-of .ensures)
 
 pub color-edges-spec : {M : Type 1} → statement M
-color-edges-spec =
-    tie.close
-    (tie.spec
+color-edges-spec = tie.close (tie.spec
     (λ c κs. search needs) (λ c. search needs)
     returns
     (λ c. search needs)

@@ -11,9 +11,7 @@ returns-2 : tie.Need-returns-2
 returns-2 c = edges-checked _ _ _ _ _ _ (c .before .enum-told2 .given .1) (c .check-edges .ensures)
 
 pub check-items-spec : {M : Type 1} → statement M
-check-items-spec =
-    tie.close
-    (tie.spec
+check-items-spec = tie.close (tie.spec
     (λ c. search needs) (λ c κs. search needs) (λ c. search needs) (λ c κs. search needs)
     returns
     returns-2)

@@ -11,6 +11,4 @@ returns-2 : tie.Need-returns-2
 returns-2 c = edge-first _ _ _ _ _ (c .before .before .before .enum-told2 .given .1) (c .before .before .edge-of-node .ensures) (c .end-at .ensures)
 
 pub first-node-spec : {M : Type 1} → statement M
-first-node-spec =
-    tie.close
-    (tie.spec (λ c. search needs) (λ c. search needs) (λ c κs. search needs) (λ c. search needs) (λ c. search needs) (λ c κs. search needs) returns returns-2)
+first-node-spec = tie.close (tie.spec (λ c. search needs) (λ c. search needs) (λ c κs. search needs) (λ c. search needs) (λ c. search needs) (λ c κs. search needs) returns returns-2)

@@ -11,9 +11,7 @@ returns-2 : tie.Need-returns-2
 returns-2 c = edge-free _ _ _ _ _ _ _ (c .before .before .enum-told2 .given .1) _ (c .before .edge-of-node .ensures) (c .smallest-edge-color .ensures)
 
 pub free-color-spec : {M : Type 1} → statement M
-free-color-spec =
-    tie.close
-    (tie.spec
+free-color-spec = tie.close (tie.spec
     (λ c. search needs) (λ c κs. search needs) (λ c. search needs) (λ c κs. search needs) (λ c κs. search needs)
     returns
     returns-2)

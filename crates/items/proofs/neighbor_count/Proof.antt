@@ -15,9 +15,7 @@ returns-2 : tie.Need-returns-2
 returns-2 c = count-two _ _ _ _ _ _ _ _ (c .before .before .before .before .before .before .first-node .ensures) (c .before .before .before .before .before .second-node .ensures) (c .before .before .before .before .count-at .ensures) (c .before .if1 .left) _ (c .count-at2 .ensures)
 
 pub neighbor-count-spec : {M : Type 1} → statement M
-neighbor-count-spec =
-    tie.close
-    (tie.spec
+neighbor-count-spec = tie.close (tie.spec
     (λ c κs. search needs) (λ c κs. search needs) (λ c κs. search needs)
     returns
     (λ c κs. search needs)

@@ -11,9 +11,7 @@ returns-2 : tie.Need-returns-2
 returns-2 c = edge-second _ _ _ _ _ (c .before .before .before .enum-told2 .given .1) (c .before .before .edge-of-node .ensures) (c .end-at .ensures)
 
 pub second-node-spec : {M : Type 1} → statement M
-second-node-spec =
-    tie.close
-    (tie.spec
+second-node-spec = tie.close (tie.spec
     (λ c. search needs) (λ c. search needs) (λ c κs. search needs) (λ c. search needs) (λ c. search needs) (λ c. search needs) (λ c κs. search needs)
     returns
     returns-2)

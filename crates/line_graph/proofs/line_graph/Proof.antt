@@ -11,9 +11,7 @@ list-pairs-requires : tie.Need-list-pairs-requires
 list-pairs-requires c κs = line-passed _ _ (c .before .before .before .before .before .before .args .list .now) _ _ (c .before .before .before .check-graph .ensures) (c .before .enum-told .given .1)
 
 pub line-graph-spec : {M : Type 1} → statement M
-line-graph-spec =
-    tie.close
-    (tie.spec
+line-graph-spec = tie.close (tie.spec
     (λ c κs. search needs) (λ c. search needs)
     returns
     (λ c. search needs)

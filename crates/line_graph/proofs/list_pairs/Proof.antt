@@ -22,9 +22,7 @@ returns-2 c =
     list-written _ _ _ p _ _ (t .before .before .before .before .before .incidence-front .ensures .1 .1 p (omega (arith, p .nodes)) (omega (arith, p .even, p .edges))) _ (t .list-length .ensures) _ _ (c .before .before .before .before .before .before .if1 .left) refl (c .before .before .write-pairs .ensures)
 
 pub list-pairs-spec : {M : Type 1} → statement M
-list-pairs-spec =
-    tie.close
-    (tie.spec
+list-pairs-spec = tie.close (tie.spec
     (λ c. search needs) (λ c. search needs) (λ c κs. search needs) (λ c. search needs) (λ c. search needs)
     list-length-requires
     returns

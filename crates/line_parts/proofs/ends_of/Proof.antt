@@ -11,9 +11,7 @@ returns-2 : tie.Need-returns-2
 returns-2 c = ends-fall _ _ _ _ (c .before .before .before .before .end-at .ensures) (c .before .before .before .end-at2 .ensures) (c .if1 .left)
 
 pub ends-of-spec : {M : Type 1} → statement M
-ends-of-spec =
-    tie.close
-    (tie.spec
+ends-of-spec = tie.close (tie.spec
     (λ c. search needs) (λ c. search needs) (λ c κs. search needs) (λ c. search needs) (λ c. search needs) (λ c κs. search needs)
     returns
     returns-2)

@@ -14,9 +14,7 @@ returns-3 : tie.Need-returns-3
 returns-3 c = part-lower _ _ _ _ _ _ _ _ (c .before .before .before .before .before .ends-of .ensures .0) (c .before .before .before .before .before .ends-of .ensures .1) (c .before .before .before .before .if1 .left) (c .before .before .if2 .left) (c .before .edges-at2 .ensures .0) (c .part-of2 .ensures)
 
 pub part-at-spec : {M : Type 1} → statement M
-part-at-spec =
-    tie.close
-    (tie.spec
+part-at-spec = tie.close (tie.spec
     (λ c κs. search needs) (λ c κs. search needs) (λ c κs. search needs)
     returns
     (λ c. search needs) (λ c. search needs) (λ c. search needs)

@@ -17,9 +17,7 @@ returns-3 : tie.Need-returns-3
 returns-3 c = cut-before _ _ _ _ (c .before .before .place-of .ensures) (c .before .if1 .left)
 
 pub part-of-spec : {M : Type 1} → statement M
-part-of-spec =
-    tie.close
-    (tie.spec
+part-of-spec = tie.close (tie.spec
     (λ c κs. search needs) (λ c. search needs) (λ c. search needs) (λ c. search needs) (λ c. search needs) (λ c. search needs)
     returns
     (λ c. search needs) (λ c. search needs) (λ c. search needs)

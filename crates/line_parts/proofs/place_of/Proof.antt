@@ -22,11 +22,7 @@ returns-2 : tie.Need-returns-2 Inv-loop μ-loop
 returns-2 c = search (needs, place-end)
 
 pub place-of-spec : {M : Type 1} → statement M
-place-of-spec =
-    tie.close
-    (tie.spec
-    Inv-loop
-    μ-loop
+place-of-spec = tie.close (tie.spec Inv-loop μ-loop
     (λ c. search (needs, place-start))
     (λ c. search needs) (λ c. search needs)
     returns

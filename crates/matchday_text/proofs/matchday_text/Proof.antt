@@ -32,9 +32,7 @@ returns-2 : tie.Need-returns-2
 returns-2 c = read-text _ _ _ _ refl (c .before .before .before .before .before .before .before .before .before .read-graph-file .ensures .1 .1) _ _ _ (c .before .before .before .before .before .before .nodes .given .1) _ _ _ (c .before .before .graph-text .ensures .0) (c .before .before .graph-text .ensures .1)
 
 pub matchday-text-spec : {M : Type 1} → statement M
-matchday-text-spec =
-    tie.close
-    (tie.spec
+matchday-text-spec = tie.close (tie.spec
     (λ c. search needs) (λ c κs. search needs) (λ c. search needs) (λ c κs. search needs) (λ c. search needs)
     put-refused-requires
     (λ c. search needs)

@@ -17,9 +17,7 @@ put-days-requires : tie.Need-put-days-requires
 put-days-requires c κs = accepted-room _ _ (c .before .before .before .before .before .before .before .before .before .before .before .before .args .colors .now) _ _ _ (c .before .before .before .before .before .before .before .misra-gries-edge-color .ensures .0) (c .before .before .before .days .given .1) (c .before .before .before .before .before .before .before .misra-gries-edge-color .ensures .1 .0) (c .before .before .before .before .before .before .before .misra-gries-edge-color .ensures .1 .1)
 
 pub outcome-text-spec : {M : Type 1} → statement M
-outcome-text-spec =
-    tie.close
-    (tie.spec
+outcome-text-spec = tie.close (tie.spec
     (λ c κs. search needs) (λ c. search needs) (λ c κs. search needs) (λ c. search needs)
     put-refused-requires
     (λ c. search needs)

@@ -11,9 +11,7 @@ slice-aggregate-write-all : tie.Need-slice-aggregate-write-all
 slice-aggregate-write-all c = sym (length-take-le _ _ (omega (arith, c .before .before .matchday-text .kept .1 .0, text-fits _ _ (c .before .before .matchday-text .ensures .0))))
 
 pub main-spec : {M : Type 1} → statement M
-main-spec =
-    tie.close
-    (tie.spec
+main-spec = tie.close (tie.spec
     (λ c. search needs) (λ c κs. search needs) (λ c. search needs) (λ c. search needs) (λ c. search needs) (λ c κs. search needs)
     (λ c. omega (arith, text-fits _ _ (c .before .matchday-text .ensures .0)))
     slice-aggregate-write-all

@@ -22,9 +22,7 @@ returns c =
     (c .days-of-tally .ensures ∙ d .1, c .before .before .before .copy-colors .ensures ∙ (copied-same _ _ (c .before .before .before .before .before .before .before .before .before .before .before .before .before .before .before .before .before .pre .1 .1 ∙ sym (length-take-le _ _ (running-room _ _ _ _ _ _ _ _ _ r))) ∙ d .0))
 
 pub color-simple-spec : {M : Type 1} → statement M
-color-simple-spec =
-    tie.close
-    (tie.spec
+color-simple-spec = tie.close (tie.spec
     (λ c. sym (length-replicate {A = ℕ} 4096 65535))
     (λ c. sym (length-replicate {A = ℕ} 294912 65535))
     (λ c. sym (length-replicate {A = ℕ} 4096 0))

@@ -28,9 +28,7 @@ returns-4 c =
     (o .0, (o .1, vizing-coloring _ _ _ _ _ o))
 
 pub misra-gries-edge-color-spec : {M : Type 1} → statement M
-misra-gries-edge-color-spec =
-    tie.close
-    (tie.spec
+misra-gries-edge-color-spec = tie.close (tie.spec
     (λ c κs. tt) (λ c. search needs)
     returns
     (λ c. search needs)

@@ -18,11 +18,7 @@ abbrev μ-loop : tie.MeasureT-loop
 μ-loop ends work₀ table₀ edges colors i₀ work table i = length edges - i
 
 pub color-all-spec : {M : Type 1} → statement M
-color-all-spec =
-    tie.close
-    (tie.spec
-    Inv-loop
-    μ-loop
+color-all-spec = tie.close (tie.spec Inv-loop μ-loop
     (λ c. search needs) (λ c. search needs) (λ c. search needs)
     (λ c. search (needs, color-short))
     (λ c. search needs) (λ c. search needs) (λ c. search needs) (λ c. search needs) (λ c κs. search needs) (λ c. search needs) (λ c. search needs)

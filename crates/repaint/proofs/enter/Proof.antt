@@ -5,9 +5,7 @@ use Rattle.repaint.proofs.enter.Statement.{statement}
 use Rattle.repaint.proofs.enter.Tie as tie
 
 pub enter-spec : {M : Type 1} → statement M
-enter-spec =
-    tie.close
-    (tie.spec
+enter-spec = tie.close (tie.spec
     (λ c. search needs)
     (λ c. search (needs, entered-no-place))
     (λ c. search needs) (λ c. search needs) (λ c. search needs)

@@ -5,9 +5,7 @@ use Rattle.repaint.proofs.enter_at_ends.Statement.{statement}
 use Rattle.repaint.proofs.enter_at_ends.Tie as tie
 
 pub enter-at-ends-spec : {M : Type 1} → statement M
-enter-at-ends-spec =
-    tie.close
-    (tie.spec
+enter-at-ends-spec = tie.close (tie.spec
     (λ c. search needs) (λ c. search needs) (λ c κs. search needs) (λ c. search needs) (λ c. search needs) (λ c κs. search needs)
     (λ c κs. search needs) (λ c κs. search needs) (λ c. search needs)
     (λ c. search (needs, enter-both)))

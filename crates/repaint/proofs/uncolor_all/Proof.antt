@@ -18,11 +18,7 @@ abbrev μ-loop : tie.MeasureT-loop
 μ-loop ends work₀ table₀ edges i₀ work table i = length edges - i
 
 pub uncolor-all-spec : {M : Type 1} → statement M
-uncolor-all-spec =
-    tie.close
-    (tie.spec
-    Inv-loop
-    μ-loop
+uncolor-all-spec = tie.close (tie.spec Inv-loop μ-loop
     (λ c. search needs) (λ c. search needs) (λ c. search needs) (λ c κs. search needs) (λ c. search needs) (λ c. search needs)
     (λ c. search (needs, uncolor-next))
     (λ c. search needs) (λ c. search needs)

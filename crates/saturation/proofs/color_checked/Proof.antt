@@ -18,9 +18,7 @@ returns : tie.Need-returns
 returns c = (c .days-of .ensures, search (needs, from-presets))
 
 pub color-checked-spec : {M : Type 1} → statement M
-color-checked-spec =
-    tie.close
-    (tie.spec
+color-checked-spec = tie.close (tie.spec
     (λ c. search needs) (λ c. search needs) (λ c κs. search needs) (λ c. search needs) (λ c. search needs) (λ c. search needs) (λ c. search needs)
     run-requires
     (λ c κs. search needs) (λ c. search needs)

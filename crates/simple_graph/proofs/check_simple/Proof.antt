@@ -21,9 +21,7 @@ returns-4 : tie.Need-returns-4
 returns-4 c = simple-yes _ _ _ _ (c .before .before .before .before .before .before .before .check-graph .ensures) (c .before .before .before .before .before .graph .given .1) _ _ (c .before .before .before .has-loop .ensures) (c .before .before .if1 .left) (c .before .has-double-edge .ensures) (c .if2 .left)
 
 pub check-simple-spec : {M : Type 1} → statement M
-check-simple-spec =
-    tie.close
-    (tie.spec
+check-simple-spec = tie.close (tie.spec
     (λ c κs. search needs) (λ c. search needs)
     returns
     (λ c. search needs) (λ c κs. search needs)

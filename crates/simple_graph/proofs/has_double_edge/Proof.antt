@@ -8,9 +8,7 @@ table-has-double-requires : tie.Need-table-has-double-requires
 table-has-double-requires c κs = let p = c .before .before .before .before .before .before .before .before .pre .0 in (p, (c .before .before .before .before .before .before .before .before .pre .1, c .before .before .before .before .incidence-front .ensures .1 .1 p (omega (arith, p .nodes)) (omega (arith, p .even, p .edges))))
 
 pub has-double-edge-spec : {M : Type 1} → statement M
-has-double-edge-spec =
-    tie.close
-    (tie.spec
+has-double-edge-spec = tie.close (tie.spec
     (λ c. search needs) (λ c. search needs) (λ c κs. search needs) (λ c. search needs) (λ c. search needs)
     table-has-double-requires
     (λ c. search needs))

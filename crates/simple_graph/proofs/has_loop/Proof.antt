@@ -23,9 +23,7 @@ returns-2 : tie.Need-returns-2 Inv-loop μ-loop
 returns-2 c = search (needs, no-loop-all)
 
 pub has-loop-spec : {M : Type 1} → statement M
-has-loop-spec =
-    tie.close
-    (tie.spec Inv-loop μ-loop
+has-loop-spec = tie.close (tie.spec Inv-loop μ-loop
     (λ c. search (needs, no-edge))
     (λ c. search needs) (λ c. search needs) (λ c. search needs) (λ c. search needs) (λ c. search needs) (λ c. search needs) (λ c. search needs)
     returns

@@ -40,9 +40,7 @@ returns : tie.Need-returns Inv-loop μ-loop
 returns c = let end = step-end _ _ _ (c .before .before .edge-at .ensures) (c .enum-told .given .1) in search (needs, seen-all)
 
 pub node-has-double-spec : {M : Type 1} → statement M
-node-has-double-spec =
-    tie.close
-    (tie.spec Inv-loop μ-loop
+node-has-double-spec = tie.close (tie.spec Inv-loop μ-loop
     (λ c. search needs)
     (λ c. search (needs, seen-none))
     (λ c κs. search needs) (λ c. search needs) (λ c. search needs)

@@ -20,9 +20,7 @@ returns-2 : tie.Need-returns-2 Inv-loop μ-loop
 returns-2 c = search (needs, no-double)
 
 pub table-has-double-spec : {M : Type 1} → statement M
-table-has-double-spec =
-    tie.close
-    (tie.spec Inv-loop μ-loop
+table-has-double-spec = tie.close (tie.spec Inv-loop μ-loop
     (λ c. search (needs, no-node))
     (λ c. search needs) (λ c. search needs)
     (λ c κs. search (needs, node-ready))

@@ -25,11 +25,7 @@ returns-2 : tie.Need-returns-2 Inv-loop μ-loop
 returns-2 c = record { inside = c .before .loop .inv .1; before = c .before .loop .inv .0; here = λ h. let z : ⊥ = omega (arith, c .loop-test .left) in absurd z }
 
 pub first-unmarked-spec : {M : Type 1} → statement M
-first-unmarked-spec =
-    tie.close
-    (tie.spec
-    Inv-loop
-    μ-loop
+first-unmarked-spec = tie.close (tie.spec Inv-loop μ-loop
     (λ c. (first-unmarked-begin (c .args .marks .now), omega arith))
     (λ c. search needs)
     returns

@@ -28,11 +28,7 @@ returns : tie.Need-returns Inv-loop μ-loop
 returns c = (λ cs m. edges-marked-end _ _ _ cs _ (c .before .loop .inv .2 cs m) (c .loop-test .left), c .before .loop .inv .1)
 
 pub mark-colors-spec : {M : Type 1} → statement M
-mark-colors-spec =
-    tie.close
-    (tie.spec
-    Inv-loop
-    μ-loop
+mark-colors-spec = tie.close (tie.spec Inv-loop μ-loop
     loop-holds
     (λ c. search needs) (λ c. search needs)
     (λ c. omega (arith, c .shared-slice-known3 .given (c .before .before .before .loop .i)))

@@ -38,11 +38,7 @@ loop-again c =
     (far-marked-next _ _ _ _ _ (l .at) (l .inv .0) _ _ _ _ _ _ (c .before .before .before .before .before .before .before .before .before .before .edge-at .ensures) (c .before .before .before .before .before .before .before .before .edge .given .1) (c .before .before .before .before .before .before .far-end .ensures) (c .before .before .before .color-of .ensures) (m .ensures), m .kept .0 ∙ l .inv .1)
 
 pub mark-far-colors-spec : {M : Type 1} → statement M
-mark-far-colors-spec =
-    tie.close
-    (tie.spec
-    Inv-loop
-    μ-loop
+mark-far-colors-spec = tie.close (tie.spec Inv-loop μ-loop
     loop-holds
     (λ c κs. search needs) (λ c. search needs) (λ c. search needs)
     returns

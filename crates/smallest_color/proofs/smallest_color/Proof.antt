@@ -8,9 +8,7 @@ returns : tie.Need-returns
 returns c = let m = c .before .before .before .mark-far-colors in smallest-found _ _ _ _ (m .last .1 .1 .1 .1 .1 .0) 512 (c .first-unmarked .result) (m .ensures .0) (m .ensures .1) (c .first-unmarked .ensures)
 
 pub smallest-color-spec : {M : Type 1} → statement M
-smallest-color-spec =
-    tie.close
-    (tie.spec
+smallest-color-spec = tie.close (tie.spec
     (λ c. search needs)
     (λ c κs. marked-none 512)
     (λ c. search needs) (λ c κs. search needs) (λ c. search needs)

@@ -25,9 +25,7 @@ returns c =
     sides-accepted _ _ _ _ _ _ (s .even taken) (s .sided taken) (c .days-of .ensures) (c .before .before .before .before .copy-out .ensures)
 
 pub color-checked-spec : {M : Type 1} → statement M
-color-checked-spec =
-    tie.close
-    (tie.spec
+color-checked-spec = tie.close (tie.spec
     (λ c. search needs) (λ c. search needs) (λ c. search needs) (λ c κs. search needs) (λ c. search needs)
     slice-aggregate-copy-out
     copy-out-requires

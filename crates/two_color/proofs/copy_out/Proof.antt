@@ -26,11 +26,7 @@ returns : tie.Need-returns Inv-loop μ-loop
 returns c = copied-end _ _ _ _ (c .before .loop .inv .2) (c .before .loop .inv .0) (c .loop-test .left) (omega (arith, c .before .before .pre .0)) ∙ copied-same _ _ (c .before .before .pre .0)
 
 pub copy-out-spec : {M : Type 1} → statement M
-copy-out-spec =
-    tie.close
-    (tie.spec
-    Inv-loop
-    μ-loop
+copy-out-spec = tie.close (tie.spec Inv-loop μ-loop
     (λ c. (omega arith, refl, refl))
     (λ c. search needs) (λ c. search needs)
     cast-colors

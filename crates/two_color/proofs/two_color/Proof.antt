@@ -20,9 +20,7 @@ returns-3 c =
     (o .0, (o .1, bipartition _ _ _ _ _ (o .0) (o .1)))
 
 pub two-color-spec : {M : Type 1} → statement M
-two-color-spec =
-    tie.close
-    (tie.spec
+two-color-spec = tie.close (tie.spec
     (λ c κs. search needs) (λ c. search needs)
     returns
     (λ c. search needs)

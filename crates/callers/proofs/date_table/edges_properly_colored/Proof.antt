@@ -8,8 +8,6 @@ returns : tie.Need-returns
 returns c = (c .before .before .misra-gries-edge-color .ensures .0, (c .before .before .misra-gries-edge-color .ensures .1 .0, edges-proper _ _ _ _ _ (c .before .before .misra-gries-edge-color .ensures .1 .1)))
 
 pub edges-properly-colored-spec : {M : Type 1} → statement M
-edges-properly-colored-spec =
-    tie.close
-    (tie.spec
+edges-properly-colored-spec = tie.close (tie.spec
     (λ c κs. search needs) (λ c. search needs)
     returns)

@@ -8,8 +8,6 @@ returns : tie.Need-returns
 returns c = let e = c .before .before .greedy-node-color-with-preset-colors .ensures in (e .0, (e .1 .0, no-preset-moved _ _ _ _ _ _ _ (e .1 .1 .0) (e .1 .1 .1 .0)))
 
 pub no-preset-node-moved-by-degree-spec : {M : Type 1} → statement M
-no-preset-node-moved-by-degree-spec =
-    tie.close
-    (tie.spec
+no-preset-node-moved-by-degree-spec = tie.close (tie.spec
     (λ c κs. search needs) (λ c. search needs)
     returns)

@@ -8,8 +8,6 @@ returns : tie.Need-returns
 returns c = let e = c .before .before .greedy-edge-color-with-coloring-strategy .ensures in (e .0, (e .1 .0, adjacent-edges _ _ _ _ _ (λ p l. e .1 .1 .0 p (l .0) (l .1)) (e .1 .1 .1 .1)))
 
 pub adjacent-edges-differ-unless-preset-spec : {M : Type 1} → statement M
-adjacent-edges-differ-unless-preset-spec =
-    tie.close
-    (tie.spec
+adjacent-edges-differ-unless-preset-spec = tie.close (tie.spec
     (λ c κs. search needs) (λ c. search needs)
     returns)

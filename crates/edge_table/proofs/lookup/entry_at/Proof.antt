@@ -5,9 +5,7 @@ use Rattle.edge_table.proofs.lookup.entry_at.Statement.{statement}
 use Rattle.edge_table.proofs.lookup.entry_at.Tie as tie
 
 pub entry-at-spec : {M : Type 1} → statement M
-entry-at-spec =
-    tie.close
-    (tie.spec
+entry-at-spec = tie.close (tie.spec
     (λ c. search needs)
     (λ c. search (needs, no-place))
     (λ c. search needs) (λ c. search needs) (λ c. search needs)

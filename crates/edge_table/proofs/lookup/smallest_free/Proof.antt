@@ -15,11 +15,7 @@ abbrev μ-loop : tie.MeasureT-loop
 μ-loop table node c₀ c = 576 - c
 
 pub smallest-free-spec : {M : Type 1} → statement M
-smallest-free-spec =
-    tie.close
-    (tie.spec
-    Inv-loop
-    μ-loop
+smallest-free-spec = tie.close (tie.spec Inv-loop μ-loop
     (λ c. search (needs, empty-start))
     (λ c. search needs) (λ c κs. search needs) (λ c. search needs)
     (λ c. search (needs, empty-found))

@@ -18,11 +18,7 @@ abbrev μ-loop : tie.MeasureT-loop
 μ-loop work table marks stamp far near from i₀ i = length near - i
 
 pub first-joining-spec : {M : Type 1} → statement M
-first-joining-spec =
-    tie.close
-    (tie.spec
-    Inv-loop
-    μ-loop
+first-joining-spec = tie.close (tie.spec Inv-loop μ-loop
     (λ c. search needs) (λ c. search needs) (λ c. search needs) (λ c κs. tt)
     (λ c. search (needs, first-here))
     (λ c. search needs) (λ c. search needs)

@@ -6,9 +6,7 @@ use Rattle.fan.proofs.candidates.joins.Statement.{statement}
 use Rattle.fan.proofs.candidates.joins.Tie as tie
 
 pub joins-spec : {M : Type 1} → statement M
-joins-spec =
-    tie.close
-    (tie.spec
+joins-spec = tie.close (tie.spec
     (λ c κs. tt)
     (λ c. search (needs, uncolored-joins-not))
     (λ c κs. tt) (λ c κs. tt)

@@ -5,9 +5,7 @@ use Rattle.fan.proofs.candidates.may_join.Statement.{statement}
 use Rattle.fan.proofs.candidates.may_join.Tie as tie
 
 pub may-join-spec : {M : Type 1} → statement M
-may-join-spec =
-    tie.close
-    (tie.spec
+may-join-spec = tie.close (tie.spec
     (λ c κs. tt)
     (λ c. search (needs, marked-may-not))
     (λ c κs. tt)

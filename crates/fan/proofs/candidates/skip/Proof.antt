@@ -17,11 +17,7 @@ abbrev μ-loop : tie.MeasureT-loop
 μ-loop work marks stamp near from i₀ i = length near - i
 
 pub skip-spec : {M : Type 1} → statement M
-skip-spec =
-    tie.close
-    (tie.spec
-    Inv-loop
-    μ-loop
+skip-spec = tie.close (tie.spec Inv-loop μ-loop
     (λ c. search needs) (λ c. search needs) (λ c. search needs) (λ c κs. tt)
     (λ c. search (needs, place-here))
     (λ c. search needs) (λ c. search needs)

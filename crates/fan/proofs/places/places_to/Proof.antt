@@ -18,11 +18,7 @@ abbrev μ-loop : tie.MeasureT-loop
 μ-loop ends table fan color node count₀ end₀ count end = length fan - count
 
 pub places-to-spec : {M : Type 1} → statement M
-places-to-spec =
-    tie.close
-    (tie.spec
-    Inv-loop
-    μ-loop
+places-to-spec = tie.close (tie.spec Inv-loop μ-loop
     (λ c. search needs) (λ c κs. tt)
     (λ c. search (needs, places-found))
     (λ c. search needs) (λ c. search needs) (λ c κs. tt) (λ c. search needs) (λ c. search needs)

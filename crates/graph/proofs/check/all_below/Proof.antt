@@ -28,11 +28,7 @@ loop-again c =
     (omega arith, ⊎-elim (λ w. w .1 ∙ all-below-broken _ _ _ h (w .0 .taken)) (λ w. w .1 ∙ all-below-kept _ _ _ _ e h (w .0 .left)) (c .if1 .came))
 
 pub all-below-spec : {M : Type 1} → statement M
-all-below-spec =
-    tie.close
-    (tie.spec
-    Inv-loop
-    μ-loop
+all-below-spec = tie.close (tie.spec Inv-loop μ-loop
     loop-holds
     (λ c. search needs) (λ c. search needs) (λ c. search needs) (λ c. search needs)
     loop-again

@@ -5,9 +5,7 @@ use Rattle.graph.proofs.check.check_graph.Statement.{statement}
 use Rattle.graph.proofs.check.check_graph.Tie as tie
 
 pub check-graph-spec : {M : Type 1} → statement M
-check-graph-spec =
-    tie.close
-    (tie.spec
+check-graph-spec = tie.close (tie.spec
     (λ c. search (needs, too-many-nodes))
     (λ c. search (needs, odd-ends))
     (λ c. search needs)

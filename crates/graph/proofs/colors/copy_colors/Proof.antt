@@ -26,11 +26,7 @@ returns-2 : tie.Need-returns-2 Inv-loop μ-loop
 returns-2 c = copied-end _ _ _ _ (c .before .loop .inv .3) (c .before .loop .inv .0) (c .loop-test .left) (c .before .loop .inv .1)
 
 pub copy-colors-spec : {M : Type 1} → statement M
-copy-colors-spec =
-    tie.close
-    (tie.spec
-    Inv-loop
-    μ-loop
+copy-colors-spec = tie.close (tie.spec Inv-loop μ-loop
     (λ c. (omega arith, omega arith, refl, refl))
     (λ c. search needs)
     returns

@@ -39,11 +39,7 @@ loop-again-2 c =
     (omega arith, omega arith, ⊎-elim (λ w. same (inl (w .0 .taken, w .1)) (c .if2 .left)) (λ w. same (inr (w .0 .left, w .1)) (c .if2 .left)) (c .before .if1 .came))
 
 pub days-of-spec : {M : Type 1} → statement M
-days-of-spec =
-    tie.close
-    (tie.spec
-    Inv-loop
-    μ-loop
+days-of-spec = tie.close (tie.spec Inv-loop μ-loop
     (λ c. search (needs, days-none))
     (λ c. search needs) (λ c. search needs) (λ c. search needs)
     add-day

@@ -15,9 +15,7 @@ returns-3 : tie.Need-returns-3
 returns-3 c = field-found _ (c .before .before .before .before .before .args .at) _ (c .before .before .before .if1 .left) (c .before .before .number-at .ensures) (c .before .if2 .left)
 
 pub field-at-spec : {M : Type 1} → statement M
-field-at-spec =
-    tie.close
-    (tie.spec
+field-at-spec = tie.close (tie.spec
     (λ c. search needs)
     returns
     (λ c. search needs) (λ c. search needs) (λ c κs. search needs) (λ c. search needs) (λ c. search needs)

@@ -38,9 +38,7 @@ returns-5 c =
     ends-last _ (s .at) _ (f .0) (s .nodes) _ (c .before .before .before .before .before .before .before .before .field .given .1) (f .1) (c .before .before .before .before .before .if1 .left) (c .before .before .before .if2 .left) (c .before .if3 .left)
 
 pub after-nodes-spec : {M : Type 1} → statement M
-after-nodes-spec =
-    tie.close
-    (tie.spec
+after-nodes-spec = tie.close (tie.spec
     (λ c κs. search needs) (λ c. search needs)
     returns
     (λ c. search needs)

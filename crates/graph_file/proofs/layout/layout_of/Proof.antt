@@ -35,9 +35,7 @@ after-nodes-requires : tie.Need-after-nodes-requires
 after-nodes-requires c κs = c .before .before .before .before .before .before .before .before .before .field-at .ensures .1 _ (c .before .before .before .before .before .before .before .field .given .1)
 
 pub layout-of-spec : {M : Type 1} → statement M
-layout-of-spec =
-    tie.close
-    (tie.spec
+layout-of-spec = tie.close (tie.spec
     returns
     (λ c κs. search needs) (λ c. search needs)
     returns-2

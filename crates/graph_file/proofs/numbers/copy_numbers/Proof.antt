@@ -31,11 +31,7 @@ slice-write-list c =
     omega (arith, s .pre, length-numbers (s .args .bytes .now), c .before .before .loop .inv .3)
 
 pub copy-numbers-spec : {M : Type 1} → statement M
-copy-numbers-spec =
-    tie.close
-    (tie.spec
-    Inv-loop
-    μ-loop
+copy-numbers-spec = tie.close (tie.spec Inv-loop μ-loop
     (λ c. (refl, omega arith, refl, refl))
     (λ c. search needs) (λ c κs. search needs) (λ c. search needs)
     slice-write-list

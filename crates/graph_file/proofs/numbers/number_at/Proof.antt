@@ -18,9 +18,7 @@ add-result : tie.Need-add-result
 add-result c = omega (arith, c .before .shared-slice-known .given (c .before .before .args .at), c .shared-slice-known2 .given (c .before .before .args .at + 1))
 
 pub number-at-spec : {M : Type 1} → statement M
-number-at-spec =
-    tie.close
-    (tie.spec
+number-at-spec = tie.close (tie.spec
     (λ c. search needs)
     (λ c. omega (arith, c .shared-slice-known .given (c .before .args .at)))
     (λ c. search needs) (λ c. search needs)

@@ -42,11 +42,7 @@ returns : tie.Need-returns Inv-loop μ-loop
 returns c = part-done _ _ _ _ _ _ _ _ _ (c .loop-test .left) (c .before .loop .inv .1)
 
 pub put-off-part-spec : {M : Type 1} → statement M
-put-off-part-spec =
-    tie.close
-    (tie.spec
-    Inv-loop
-    μ-loop
+put-off-part-spec = tie.close (tie.spec Inv-loop μ-loop
     loop-holds
     (λ c. search needs) (λ c. search needs) (λ c. search needs) (λ c κs. search needs)
     put-off-requires

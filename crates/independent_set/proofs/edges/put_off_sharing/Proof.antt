@@ -41,11 +41,7 @@ returns c =
     parts-done _ _ _ _ _ _ _ _ _ _ _ _ (c .before .loop .inv .0) (c .loop-test .left) (parts-all _ _ _ _ _ (known .0) (known .1) (known .2)) (c .before .loop .inv .1)
 
 pub put-off-sharing-spec : {M : Type 1} → statement M
-put-off-sharing-spec =
-    tie.close
-    (tie.spec
-    Inv-loop
-    μ-loop
+put-off-sharing-spec = tie.close (tie.spec Inv-loop μ-loop
     loop-holds
     (λ c κs. search needs)
     put-off-part-requires

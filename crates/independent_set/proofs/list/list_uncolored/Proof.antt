@@ -27,11 +27,7 @@ returns : tie.Need-returns Inv-loop μ-loop
 returns c = let e : c .before .loop .v ≡ length (c .before .before .args .presets .now) = omega arith in rw (← e) (c .before .loop .inv .1)
 
 pub list-uncolored-spec : {M : Type 1} → statement M
-list-uncolored-spec =
-    tie.close
-    (tie.spec
-    Inv-loop
-    μ-loop
+list-uncolored-spec = tie.close (tie.spec Inv-loop μ-loop
     (λ c. (omega arith, list-none _ _ _ (c .pre .1) (c .pre .2)))
     (λ c. search needs) (λ c. search needs) (λ c. search needs) (λ c. search needs) (λ c. search needs) (λ c. search needs) (λ c. search needs) (λ c. search needs) (λ c. search needs) (λ c. search needs) (λ c. search needs)
     loop-again

@@ -41,9 +41,7 @@ returns-3 c =
     put-off-listed _ _ _ _ _ _ _ held _ _ (listed-there _ _ _ _ _ _ (held .first) (else1 .if1 .left) (else2 .if2 .left)) refl _ _ refl refl
 
 pub put-off-spec : {M : Type 1} → statement M
-put-off-spec =
-    tie.close
-    (tie.spec
+put-off-spec = tie.close (tie.spec
     (λ c. search needs) (λ c. search needs) (λ c. search needs)
     (λ c. omega (arith, c .slice-known .given (c .before .before .args .item .0)))
     returns

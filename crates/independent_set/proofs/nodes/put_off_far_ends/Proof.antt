@@ -43,11 +43,7 @@ returns c =
     neighbors-done _ _ _ _ _ _ (known .0) (known .1) (known .2) (after-edges-at .edges-at .ensures .0) _ _ _ _ _ _ _ (c .loop-test .left) (c .before .loop .inv)
 
 pub put-off-far-ends-spec : {M : Type 1} → statement M
-put-off-far-ends-spec =
-    tie.close
-    (tie.spec
-    Inv-loop
-    μ-loop
+put-off-far-ends-spec = tie.close (tie.spec Inv-loop μ-loop
     (λ c κs. search needs)
     (λ c. neighbors-none _ _ _ _ _ _ _ (c .before .before .before .before .before .before .before .pre .1))
     (λ c. search needs) (λ c. search needs)

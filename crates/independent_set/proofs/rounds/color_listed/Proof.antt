@@ -55,11 +55,7 @@ returns : tie.Need-returns Inv-loop μ-loop
 returns c = turn-done _ _ _ _ _ _ _ _ _ _ (c .before .before .loop .inv) (c .if1 .left)
 
 pub color-listed-spec : {M : Type 1} → statement M
-color-listed-spec =
-    tie.close
-    (tie.spec
-    Inv-loop
-    μ-loop
+color-listed-spec = tie.close (tie.spec Inv-loop μ-loop
     loop-holds
     (λ c. omega (arith, c .before .before .before .loop .inv .held .first .size))
     cast-v

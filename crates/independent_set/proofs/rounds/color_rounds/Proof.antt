@@ -44,11 +44,7 @@ returns-2 : tie.Need-returns-2 Inv-loop μ-loop
 returns-2 c = rounds-done _ _ _ _ _ _ _ _ _ _ (c .before .before .loop .inv) (c .if1 .left)
 
 pub color-rounds-spec : {M : Type 1} → statement M
-color-rounds-spec =
-    tie.close
-    (tie.spec
-    Inv-loop
-    μ-loop
+color-rounds-spec = tie.close (tie.spec Inv-loop μ-loop
     loop-holds
     (λ c. search needs) (λ c. search needs) (λ c. search needs) (λ c. search needs)
     returns

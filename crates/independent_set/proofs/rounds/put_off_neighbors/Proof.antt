@@ -17,9 +17,7 @@ returns c =
     rw (← after-edge-of-node .edge-of-node .ensures) (after-put-off .put-off-sharing .ensures)
 
 pub put-off-neighbors-spec : {M : Type 1} → statement M
-put-off-neighbors-spec =
-    tie.close
-    (tie.spec
+put-off-neighbors-spec = tie.close (tie.spec
     (λ c κs. search needs)
     put-off-sharing-requires
     (λ c. search needs) (λ c. search needs) (λ c. search needs)

@@ -30,11 +30,7 @@ returns : tie.Need-returns Inv-loop μ-loop
 returns c = presets-done _ _ _ _ _ _ _ _ _ _ _ (c .before .before .loop .inv .0) (c .if1 .left) (c .before .before .loop .inv .1)
 
 pub put-off-presets-spec : {M : Type 1} → statement M
-put-off-presets-spec =
-    tie.close
-    (tie.spec
-    Inv-loop
-    μ-loop
+put-off-presets-spec = tie.close (tie.spec Inv-loop μ-loop
     (λ c. search (needs, presets-none))
     (λ c. search needs) (λ c. search needs) (λ c. search needs) (λ c. search needs)
     put-off-neighbors-requires

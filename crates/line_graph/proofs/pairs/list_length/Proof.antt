@@ -29,11 +29,7 @@ returns : tie.Need-returns Inv-loop μ-loop
 returns c = let l = c .before .loop in let e : l .v ≡ c .before .before .before .before .args .n = omega arith in rw e at (l .inv .1)
 
 pub list-length-spec : {M : Type 1} → statement M
-list-length-spec =
-    tie.close
-    (tie.spec
-    Inv-loop
-    μ-loop
+list-length-spec = tie.close (tie.spec Inv-loop μ-loop
     (λ c. (omega arith, count-start _ _, omega arith))
     (λ c. search needs) (λ c κs. search needs)
     (λ c. omega (arith, bound c))

@@ -35,11 +35,7 @@ returns : tie.Need-returns Inv-loop μ-loop
 returns c = let l = c .before .loop in below-end _ _ _ _ (l .v) _ (l .place) (l .inv .2) (l .inv .0) (omega arith)
 
 pub write-pairs-spec : {M : Type 1} → statement M
-write-pairs-spec =
-    tie.close
-    (tie.spec
-    Inv-loop
-    μ-loop
+write-pairs-spec = tie.close (tie.spec Inv-loop μ-loop
     (λ c. (omega arith, refl, below-start _ _ _))
     (λ c. search needs) (λ c κs. search needs)
     write-pairs-of-requires

@@ -32,11 +32,7 @@ returns : tie.Need-returns Inv-loop μ-loop
 returns c = let l = c .before .loop in of-end _ _ _ _ (l .i) _ (l .inv .2) (l .inv .0) (omega arith)
 
 pub write-pairs-of-spec : {M : Type 1} → statement M
-write-pairs-of-spec =
-    tie.close
-    (tie.spec
-    Inv-loop
-    μ-loop
+write-pairs-of-spec = tie.close (tie.spec Inv-loop μ-loop
     (λ c. (omega arith, refl, of-start _ _ _))
     (λ c. search needs) (λ c. search needs) (λ c. search needs) (λ c. search needs) (λ c. search needs) (λ c. search needs) (λ c. search needs)
     write-pairs-with-requires

@@ -24,11 +24,7 @@ returns : tie.Need-returns Inv-loop μ-loop
 returns c = let l = c .before .loop in (refl, with-all _ _ _ _ _ (l .i) (l .inv .2) (l .inv .0) (omega arith))
 
 pub write-pairs-with-spec : {M : Type 1} → statement M
-write-pairs-with-spec =
-    tie.close
-    (tie.spec
-    Inv-loop
-    μ-loop
+write-pairs-with-spec = tie.close (tie.spec Inv-loop μ-loop
     (λ c. (omega arith, refl, with-none _ (c .args .later .now) _ _))
     (λ c. search needs) (λ c. search needs) (λ c. search needs) (λ c. search needs) (λ c. search needs) (λ c. search needs) (λ c. search needs) (λ c. search needs)
     (λ c. rw (length-set _ _ _) (omega arith))

@@ -13,9 +13,7 @@ returns-2 : tie.Need-returns-2
 returns-2 c = sym (color-outside _ _ (c .if1 .left))
 
 pub color-at-spec : {M : Type 1} → statement M
-color-at-spec =
-    tie.close
-    (tie.spec
+color-at-spec = tie.close (tie.spec
     (λ c. search needs) (λ c. search needs) (λ c. search needs)
     (λ c. omega (arith, c .shared-slice-known .given (c .before .before .before .args .edge .0)))
     returns

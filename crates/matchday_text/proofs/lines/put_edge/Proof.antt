@@ -11,9 +11,7 @@ put-line-requires : tie.Need-put-line-requires
 put-line-requires c κs = edge-room _ _ _ _ _ _ _ (c .before .before .before .end-at .ensures) (c .before .before .end-at2 .ensures) (c .before .color-at .ensures) (c .before .before .before .before .before .before .before .before .pre)
 
 pub put-edge-spec : {M : Type 1} → statement M
-put-edge-spec =
-    tie.close
-    (tie.spec
+put-edge-spec = tie.close (tie.spec
     (λ c. search needs) (λ c. search needs) (λ c κs. search needs) (λ c. search needs) (λ c. search needs) (λ c κs. search needs) (λ c κs. search needs)
     put-line-requires
     (λ c. search needs)

@@ -30,11 +30,7 @@ put-edge-requires : tie.Need-put-edge-requires Inv-loop μ-loop
 put-edge-requires c κs = line-room _ _ _ _ _ _ _ _ (c .before .loop-test .taken) (c .before .before .before .before .before .before .pre .1) (c .before .before .loop .inv .0)
 
 pub put-edges-spec : {M : Type 1} → statement M
-put-edges-spec =
-    tie.close
-    (tie.spec
-    Inv-loop
-    μ-loop
+put-edges-spec = tie.close (tie.spec Inv-loop μ-loop
     (λ c. (line-none _ _ _ _, omega arith, refl))
     (λ c. omega (arith, c .before .before .before .before .before .before .pre .0, c .before .loop-test .taken))
     put-edge-requires

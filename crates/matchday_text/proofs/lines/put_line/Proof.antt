@@ -17,9 +17,7 @@ put-number-requires-4 : tie.Need-put-number-requires-4
 put-number-requires-4 c κs = line-fourth _ _ _ _ _ _ (c .before .before .before .before .before .before .before .before .before .before .before .before .before .before .before .before .before .pre) _ _ (c .before .before .before .before .before .before .before .before .before .before .before .before .before .put-number .ensures) _ _ (c .before .before .before .before .before .before .before .before .put-number2 .ensures) _ _ (c .before .before .before .put-number3 .ensures)
 
 pub put-line-spec : {M : Type 1} → statement M
-put-line-spec =
-    tie.close
-    (tie.spec
+put-line-spec = tie.close (tie.spec
     (λ c. search needs)
     (λ c κs. line-first (c .before .before .before .args .text .now) _ _ _ _ _ (c .before .before .before .pre))
     (λ c. search needs)

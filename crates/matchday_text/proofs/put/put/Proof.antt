@@ -6,9 +6,7 @@ use Rattle.matchday_text.proofs.put.put.Statement.{statement}
 use Rattle.matchday_text.proofs.put.put.Tie as tie
 
 pub put-spec : {M : Type 1} → statement M
-put-spec =
-    tie.close
-    (tie.spec
+put-spec = tie.close (tie.spec
     (λ c. omega (arith, c .before .pre .below))
     (λ c. put-outside _ _ _ (c .if1 .taken))
     (λ c. search needs)

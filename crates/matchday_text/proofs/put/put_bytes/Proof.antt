@@ -28,11 +28,7 @@ returns : tie.Need-returns Inv-loop μ-loop
 returns c = put-byte-all _ _ _ _ _ _ (c .loop-test .left) (c .before .loop .inv .0) (c .before .loop .inv .2)
 
 pub put-bytes-spec : {M : Type 1} → statement M
-put-bytes-spec =
-    tie.close
-    (tie.spec
-    Inv-loop
-    μ-loop
+put-bytes-spec = tie.close (tie.spec Inv-loop μ-loop
     (λ c. (omega arith, refl, put-none _ _))
     (λ c. search needs)
     put-requires

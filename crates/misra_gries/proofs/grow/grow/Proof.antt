@@ -55,11 +55,7 @@ returns-2 : tie.Need-returns-2 Inv-loop μ-loop
 returns-2 c = let z : ⊥ = omega (arith, c .before .loop .inv .0, c .before .before .before .before .before .before .before .before .pre .1, growing-few _ _ _ _ _ _ _ _ _ (c .before .before .before .before .before .before .before .before .pre .0) _ _ _ _ (c .before .loop .inv .2)) in absurd z
 
 pub grow-spec : {M : Type 1} → statement M
-grow-spec =
-    tie.close
-    (tie.spec
-    Inv-loop
-    μ-loop
+grow-spec = tie.close (tie.spec Inv-loop μ-loop
     (λ c. (refl, refl, growing-start _ _ _ _ _ _ _ _ _ (c .before .before .before .before .before .before .pre .0) _, passed-none _ _ _ _))
     (λ c. search needs) (λ c. search needs) (λ c κs. tt) (λ c. search needs) (λ c κs. tt) (λ c κs. tt) (λ c κs. tt) (λ c. search needs) (λ c. search needs) (λ c. search needs) (λ c. search needs)
     returns

@@ -27,11 +27,7 @@ returns : tie.Need-returns Inv-loop μ-loop
 returns c = let i = c .before .loop .inv .0 in let e : c .before .loop .k ≡ edgeCount (c .before .before .before .before .before .before .before .before .args .ends .now) = omega (arith, i .bound, c .loop-test .left) in rw e at i
 
 pub run-spec : {M : Type 1} → statement M
-run-spec =
-    tie.close
-    (tie.spec
-    Inv-loop
-    μ-loop
+run-spec = tie.close (tie.spec Inv-loop μ-loop
     (λ c. (c .before .before .before .before .before .before .pre, refl, refl, refl))
     (λ c. search needs)
     step-kept-requires

@@ -27,9 +27,7 @@ returns c =
     path-exchanged _ _ _ _ _ _ _ (c .before .before .before .before .before .before .before .before .before .before .before .before .before .before .before .before .before .before .before .before .before .pre) _ (replicate 512 0) _ _ _ _ (f .path) (f .filled) (f .short) (c .before .before .before .before .before .before .before .before .before .before .swap-colors .ensures) (c .before .before .before .before .repaint .ensures)
 
 pub exchange-edges-spec : {M : Type 1} → statement M
-exchange-edges-spec =
-    tie.close
-    (tie.spec
+exchange-edges-spec = tie.close (tie.spec
     (λ c. search needs)
     (λ c. sym (length-take-le _ (replicate 512 0) (c .before .before .before .before .before .pre .nodes)))
     (λ c κs. tt)

@@ -24,9 +24,7 @@ returns-3 c =
     path-exchanged _ _ _ _ _ _ _ (c .before .before .before .before .before .before .before .before .before .before .before .before .before .before .before .before .before .before .before .before .before .before .before .pre) _ (replicate 32 0) _ _ _ _ (f .path) (f .filled) (f .short) (c .before .before .before .before .before .before .before .before .before .before .swap-colors .ensures) (c .before .before .before .before .repaint .ensures)
 
 pub exchange-few-spec : {M : Type 1} → statement M
-exchange-few-spec =
-    tie.close
-    (tie.spec
+exchange-few-spec = tie.close (tie.spec
     (λ c κs. c .before .before .before .before .before .before .pre) (λ c. c .before .before .before .before .exchange-edges .kept .1 .1 .0) (λ c. c .before .before .before .before .exchange-edges .kept .1 .1 .1 .0) (λ c. c .before .before .before .before .exchange-edges .ensures)
     (λ c. refl) (λ c κs. tt)
     (λ c κs. c .before .before .before .before .before .before .before .before .before .before .before .pre) (λ c. c .before .before .before .before .exchange-edges2 .kept .1 .1 .0) (λ c. c .before .before .before .before .exchange-edges2 .kept .1 .1 .1 .0) (λ c. c .before .before .before .before .exchange-edges2 .ensures)

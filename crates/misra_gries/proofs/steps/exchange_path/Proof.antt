@@ -8,9 +8,7 @@ returns : tie.Need-returns
 returns c = path-empty _ _ _ _ _ _ _ (c .before .before .before .before .before .before .pre) _ (c .before .is-free .ensures) (c .if1 .taken)
 
 pub exchange-path-spec : {M : Type 1} → statement M
-exchange-path-spec =
-    tie.close
-    (tie.spec
+exchange-path-spec = tie.close (tie.spec
     (λ c κs. tt) (λ c. refl)
     returns
     (λ c κs. c .before .before .before .before .before .before .before .before .pre) (λ c. c .before .before .before .before .exchange-few .kept .1 .1 .0) (λ c. c .before .before .before .before .exchange-few .kept .1 .1 .1 .0) (λ c. c .before .before .before .before .exchange-few .ensures))

@@ -11,9 +11,7 @@ rotate-places-requires : tie.Need-rotate-places-requires
 rotate-places-requires c κs = let p = c .before .before .before .before .before .before .before .before .before .pre in (p .0, (p .1 .0, (p .1 .1 .0, c .before .before .before .if2 .taken)))
 
 pub rotate-fan-spec : {M : Type 1} → statement M
-rotate-fan-spec =
-    tie.close
-    (tie.spec
+rotate-fan-spec = tie.close (tie.spec
     (λ c. refl) (λ c κs. tt) (λ c. c .before .before .before .before .repaint .kept .1 .0) (λ c. c .before .before .before .before .repaint .kept .1 .1 .0)
     returns
     (λ c. refl)

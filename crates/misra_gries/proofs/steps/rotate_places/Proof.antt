@@ -12,9 +12,7 @@ returns : tie.Need-returns
 returns c = let p = c .before .before .before .before .before .before .before .before .before .before .before .before .before .before .before .before .before .before .pre in fan-rotated _ _ _ _ _ (p .0) (p .1 .0) _ (shifted-front _ _ _ _ _ (c .before .before .before .before .before .before .before .before .before .before .shift-colors .ensures) (p .1 .1 .0) (p .1 .1 .1)) _ _ (c .before .before .before .before .repaint .ensures)
 
 pub rotate-places-spec : {M : Type 1} → statement M
-rotate-places-spec =
-    tie.close
-    (tie.spec
+rotate-places-spec = tie.close (tie.spec
     (λ c κs. tt) (λ c. search needs)
     slice-aggregate-repaint
     (λ c κs. tt) (λ c. c .before .before .before .before .repaint .kept .1 .0) (λ c. c .before .before .before .before .repaint .kept .1 .1 .0) (λ c. search needs)

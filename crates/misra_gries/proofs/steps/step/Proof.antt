@@ -29,9 +29,7 @@ returns c =
     record { list = t .list; tabled = t .tabled; top = t .top; size = grown .kept .1 .1 .1 .0; marked = grown .ensures .1 .1 }
 
 pub step-spec : {M : Type 1} → statement M
-step-spec =
-    tie.close
-    (tie.spec
+step-spec = tie.close (tie.spec
     (λ c. search needs)
     (λ c. search needs)
     (λ c κs. tt)

@@ -102,9 +102,7 @@ returns-2 c =
     (top-some _ _ _ _ _ _ _ _ (entry .pre) _ _ _ (far-place .far-end .ensures) (c-place .smallest-free .ensures) (d-place .smallest-free2 .ensures) _ (path-place .exchange-path .ensures .0) (c .if1 .left))
 
 pub turn-spec : {M : Type 1} → statement M
-turn-spec =
-    tie.close
-    (tie.spec
+turn-spec = tie.close (tie.spec
     (λ c. turn-fan _ _ _ _ _ _ _ _ (c .before .before .before .before .pre))
     (λ c. search needs)
     (λ c. omega (arith, turn-fan _ _ _ _ _ _ _ _ (c .before .before .before .before .before .pre)))

@@ -21,11 +21,7 @@ abbrev μ-loop : tie.MeasureT-loop
 μ-loop work fan color out₀ i₀ out i = length fan - i
 
 pub shift-colors-spec : {M : Type 1} → statement M
-shift-colors-spec =
-    tie.close
-    (tie.spec
-    Inv-loop
-    μ-loop
+shift-colors-spec = tie.close (tie.spec Inv-loop μ-loop
     (λ c. search (needs, shifted-none))
     (λ c. search (needs, shifted-short))
     (λ c. (omega (arith, c .before .if1 .left), search needs, refl, shifted-start _ (c .before .before .before .before .before .args .fan .now) _ _ (omega (arith, c .before .if1 .left)) (c .if2 .left)))

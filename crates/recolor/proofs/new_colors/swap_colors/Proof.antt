@@ -19,11 +19,7 @@ abbrev μ-loop : tie.MeasureT-loop
 μ-loop work edges c d out₀ i₀ out i = length edges - i
 
 pub swap-colors-spec : {M : Type 1} → statement M
-swap-colors-spec =
-    tie.close
-    (tie.spec
-    Inv-loop
-    μ-loop
+swap-colors-spec = tie.close (tie.spec Inv-loop μ-loop
     (λ c. search (needs, exchanged-short))
     (λ c. search (needs, exchanged-start))
     (λ c. search needs) (λ c. search needs) (λ c κs. tt) (λ c κs. tt) (λ c. search needs) (λ c. search needs) (λ c. search needs) (λ c. search needs)

@@ -33,11 +33,7 @@ returns-2 : tie.Need-returns-2 Inv-loop μ-loop
 returns-2 c = follow-full _ _ _ _ _ _ _ _ _ _ (c .before .loop .inv .1) (omega (arith, c .before .loop .inv .0, c .loop-test .left))
 
 pub follow-spec : {M : Type 1} → statement M
-follow-spec =
-    tie.close
-    (tie.spec
-    Inv-loop
-    μ-loop
+follow-spec = tie.close (tie.spec Inv-loop μ-loop
     (λ c. search (needs, follow-start))
     (λ c κs. tt) (λ c. search needs) (λ c. search needs) (λ c. search needs)
     returns

@@ -23,11 +23,7 @@ loop-less c =
     omega arith
 
 pub put-walk-spec : {M : Type 1} → statement M
-put-walk-spec =
-    tie.close
-    (tie.spec
-    Inv-loop
-    μ-loop
+put-walk-spec = tie.close (tie.spec Inv-loop μ-loop
     (λ c. search needs) (λ c κs. search needs) (λ c. search needs) (λ c. search needs) (λ c κs. search needs) (λ c κs. search needs) (λ c. search needs) (λ c. search needs)
     (λ c. search needs) (λ c κs. search needs) (λ c. search needs) (λ c κs. search needs)
     loop-less

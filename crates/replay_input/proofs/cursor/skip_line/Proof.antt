@@ -13,10 +13,6 @@ abbrev μ-loop : tie.MeasureT-loop
 μ-loop buffer₀ here₀ buffer here = here .left
 
 pub skip-line-spec : {M : Type 1} → statement M
-skip-line-spec =
-    tie.close
-    (tie.spec
-    Inv-loop
-    μ-loop
+skip-line-spec = tie.close (tie.spec Inv-loop μ-loop
     (λ c. search needs) (λ c κs. search needs) (λ c. search needs) (λ c. search needs) (λ c κs. search needs) (λ c. search needs)
     (λ c. search needs))

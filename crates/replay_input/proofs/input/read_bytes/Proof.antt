@@ -19,11 +19,7 @@ returns : tie.Need-returns Inv-loop μ-loop
 returns c = (counts _ _ (omega arith), omega arith)
 
 pub read-bytes-spec : {M : Type 1} → statement M
-read-bytes-spec =
-    tie.close
-    (tie.spec
-    Inv-loop
-    μ-loop
+read-bytes-spec = tie.close (tie.spec Inv-loop μ-loop
     (λ c κs. search needs) (λ c κs. search needs) (λ c. search needs) (λ c κs. search needs) (λ c κs. search needs)
     (λ c. search needs) (λ c. search needs) (λ c. search needs)
     (λ c. (search needs, simp length-set (omega arith), search needs, search needs))

@@ -13,10 +13,6 @@ abbrev μ-loop : tie.MeasureT-loop
 μ-loop buffer₀ here₀ value₀ buffer here value = here .left
 
 pub read-number-spec : {M : Type 1} → statement M
-read-number-spec =
-    tie.close
-    (tie.spec
-    Inv-loop
-    μ-loop
+read-number-spec = tie.close (tie.spec Inv-loop μ-loop
     (λ c κs. search needs) (λ c. search needs) (λ c κs. search needs) (λ c κs. search needs) (λ c κs. search needs)
     (λ c. search needs) (λ c. search needs) (λ c. search needs) (λ c. search needs) (λ c. search needs) (λ c. search needs))

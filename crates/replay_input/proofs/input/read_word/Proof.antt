@@ -22,11 +22,7 @@ returns-2 : tie.Need-returns-2 Inv-loop μ-loop
 returns-2 c = (counts _ _ (omega arith), omega arith)
 
 pub read-word-spec : {M : Type 1} → statement M
-read-word-spec =
-    tie.close
-    (tie.spec
-    Inv-loop
-    μ-loop
+read-word-spec = tie.close (tie.spec Inv-loop μ-loop
     (λ c. search needs) (λ c κs. search needs) (λ c. search needs) (λ c. search needs) (λ c κs. search needs) (λ c. search needs)
     (λ c. search needs) (λ c. search needs) (λ c. search needs)
     returns

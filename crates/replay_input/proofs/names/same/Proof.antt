@@ -30,11 +30,7 @@ returns-3 c =
     ((λ e. ext-getD 0 _ _ (c .before .before .if1 .left) (λ k h. c .before .loop .inv .1 k (omega arith))), λ e. refl)
 
 pub same-spec : {M : Type 1} → statement M
-same-spec =
-    tie.close
-    (tie.spec
-    Inv-loop
-    μ-loop
+same-spec = tie.close (tie.spec Inv-loop μ-loop
     returns
     (λ c. search needs) (λ c. search needs) (λ c. search needs)
     returns-2

@@ -26,11 +26,7 @@ returns c =
     lent-all numberAt (at .list) (at .i) (at .inv .2) (omega arith)
 
 pub lend-spec : {M : Type 1} → statement M
-lend-spec =
-    tie.close
-    (tie.spec
-    Inv-loop
-    μ-loop
+lend-spec = tie.close (tie.spec Inv-loop μ-loop
     (λ c. search needs) (λ c κs. search needs) (λ c. search needs) (λ c. search needs) (λ c. search needs) (λ c. search needs)
     loop-again
     (λ c. search needs)

@@ -26,11 +26,7 @@ returns c =
     lent-all byteAt (at .bytes) (at .i) (at .inv .2) (omega arith)
 
 pub lend-bytes-spec : {M : Type 1} → statement M
-lend-bytes-spec =
-    tie.close
-    (tie.spec
-    Inv-loop
-    μ-loop
+lend-bytes-spec = tie.close (tie.spec Inv-loop μ-loop
     (λ c. search needs) (λ c κs. search needs) (λ c. search needs) (λ c. search needs) (λ c. search needs)
     loop-again
     (λ c. search needs)

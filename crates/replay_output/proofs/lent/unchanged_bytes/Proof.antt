@@ -33,11 +33,7 @@ returns-2 c =
     ((λ e. lent-all byteAt (c .before .before .before .args .bytes .now) (at .i) (at .inv .1) (omega arith)), λ h. refl)
 
 pub unchanged-bytes-spec : {M : Type 1} → statement M
-unchanged-bytes-spec =
-    tie.close
-    (tie.spec
-    Inv-loop
-    μ-loop
+unchanged-bytes-spec = tie.close (tie.spec Inv-loop μ-loop
     (λ c. search needs) (λ c. search needs) (λ c κs. search needs)
     returns
     (λ c. search needs) (λ c. search needs)

@@ -16,9 +16,7 @@ returns-3 : tie.Need-returns-3
 returns-3 c = ((λ h. let z : ⊥ = omega arith in absurd z), simp length-set (omega arith))
 
 pub put-spec : {M : Type 1} → statement M
-put-spec =
-    tie.close
-    (tie.spec
+put-spec = tie.close (tie.spec
     (λ c. search needs) (λ c. search needs) (λ c. search needs)
     returns
     (λ c κs. search needs) (λ c. search needs)

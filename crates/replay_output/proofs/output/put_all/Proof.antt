@@ -14,10 +14,6 @@ abbrev μ-loop : tie.MeasureT-loop
 μ-loop text₀ waiting bytes end₀ i₀ text end i = length bytes - i
 
 pub put-all-spec : {M : Type 1} → statement M
-put-all-spec =
-    tie.close
-    (tie.spec
-    Inv-loop
-    μ-loop
+put-all-spec = tie.close (tie.spec Inv-loop μ-loop
     (λ c. search needs) (λ c. search needs) (λ c κs. search needs) (λ c. search needs) (λ c. search needs) (λ c. search needs)
     (λ c. search needs) (λ c. search needs))

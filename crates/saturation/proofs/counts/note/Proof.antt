@@ -18,9 +18,7 @@ returns-3 : tie.Need-returns-3
 returns-3 c = note-old _ _ _ _ _ (c .before .before .before .before .before .before .pre .0 .0) (c .before .before .before .if1 .left) (c .before .before .before .before .before .before .pre .0 .2) (c .before .before .before .before .before .before .pre .1 (c .before .before .before .if1 .left) .0) (c .if2 .left)
 
 pub note-spec : {M : Type 1} → statement M
-note-spec =
-    tie.close
-    (tie.spec
+note-spec = tie.close (tie.spec
     (λ c. search needs) (λ c. search needs) (λ c. search needs)
     returns
     (λ c. search needs) (λ c. search needs)

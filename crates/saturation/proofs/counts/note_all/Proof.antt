@@ -35,11 +35,7 @@ returns : tie.Need-returns Inv-loop μ-loop
 returns c = let i = c .before .loop .inv in notes-all _ _ _ _ _ _ _ _ _ _ _ _ (i .4) (i .0) (c .loop-test .left)
 
 pub note-all-spec : {M : Type 1} → statement M
-note-all-spec =
-    tie.close
-    (tie.spec
-    Inv-loop
-    μ-loop
+note-all-spec = tie.close (tie.spec Inv-loop μ-loop
     loop-holds
     (λ c. search needs) (λ c. search needs) (λ c κs. search needs)
     note-requires

@@ -25,9 +25,7 @@ returns c =
     (refl, take-ready _ _ _ _ _ _ _ _ _ _ r (a .0) (a .1) n _ _ _ _ (used-known _ _ _ _ _ _ _ (r .tabled) n _ _ _ (zero-at 4096) (omega arith) (c .before .before .before .before .before .before .before .before .before .before .before .before .mark-used .ensures)) (c .before .before .before .before .before .note-neighbors .ensures) (k .1 .1 .1 .1 .1 .0) (k .1 .1 .1 .1 .1 .1 .0))
 
 pub note-color-spec : {M : Type 1} → statement M
-note-color-spec =
-    tie.close
-    (tie.spec
+note-color-spec = tie.close (tie.spec
     (λ c. search needs) (λ c κs. search needs) (λ c. search needs) (λ c. search needs) (λ c. search needs) (λ c. search needs)
     note-neighbors-requires
     (λ c. search needs) (λ c. search needs) (λ c. search needs) (λ c. search needs) (λ c. search needs) (λ c. search needs) (λ c. search needs)

@@ -38,9 +38,7 @@ returns-2 c =
     both-noted _ _ _ _ _ _ _ _ p q _ x (c .before .before .before .before .before .before .before .before .before .before .before .if1 .left) _ (c .before .before .before .before .before .before .before .before .before .before .edges-at2 .ensures .0) _ _ _ _ _ _ (c .before .before .before .before .before .before .before .before .before .before .before .before .before .before .before .before .before .before .before .before .note-all .ensures) _ _ _ (c .before .before .before .before .before .before .note-all2 .ensures)
 
 pub note-neighbors-spec : {M : Type 1} → statement M
-note-neighbors-spec =
-    tie.close
-    (tie.spec
+note-neighbors-spec = tie.close (tie.spec
     (λ c κs. search needs) (λ c κs. search needs) (λ c κs. search needs)
     note-all-requires
     (λ c. search needs) (λ c. search needs) (λ c. search needs)

@@ -31,11 +31,7 @@ returns : tie.Need-returns Inv-loop μ-loop
 returns c = started-all _ _ _ _ _ (c .before .loop .inv .3) (c .before .loop .inv .0) (omega (arith, c .loop-test .left, c .before .loop .inv .1))
 
 pub start-spec : {M : Type 1} → statement M
-start-spec =
-    tie.close
-    (tie.spec
-    Inv-loop
-    μ-loop
+start-spec = tie.close (tie.spec Inv-loop μ-loop
     (λ c. (omega arith, refl, refl, started-none _ _ _))
     cast-waiting
     (λ c κs. search needs) (λ c. search needs) (λ c. search needs)

@@ -18,9 +18,7 @@ note-color-requires c κs =
     (p .0, (p .1, at-color .if1 .left))
 
 pub take-color-spec : {M : Type 1} → statement M
-take-color-spec =
-    tie.close
-    (tie.spec
+take-color-spec = tie.close (tie.spec
     returns
     (λ c. search needs) (λ c. search needs) (λ c. search needs) (λ c. search needs) (λ c. search needs) (λ c. search needs) (λ c. search needs) (λ c. search needs) (λ c. search needs)
     returns-2

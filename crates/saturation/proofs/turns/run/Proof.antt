@@ -25,9 +25,7 @@ returns c =
     from-presets _ _ _ _ _ _ (c .before .before .before .before .before .before .take-turns .ensures) e (ap length e ∙ sym (c .before .before .before .before .before .before .before .before .before .before .before .before .before .before .before .before .before .before .before .before .before .before .before .before .before .before .before .before .before .before .before .before .before .before .pre .1 .0))
 
 pub run-spec : {M : Type 1} → statement M
-run-spec =
-    tie.close
-    (tie.spec
+run-spec = tie.close (tie.spec
     start-requires
     set-presets-requires
     (λ c κs. search needs) (λ c. search needs) (λ c. search needs) (λ c. search needs)

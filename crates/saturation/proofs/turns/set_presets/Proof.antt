@@ -42,11 +42,7 @@ returns c =
     (preset-all _ _ _ (i .5) (i .1 ∙ c .before .before .before .before .before .before .before .before .before .pre .1 .0) (c .loop-test .left), i .4)
 
 pub set-presets-spec : {M : Type 1} → statement M
-set-presets-spec =
-    tie.close
-    (tie.spec
-    Inv-loop
-    μ-loop
+set-presets-spec = tie.close (tie.spec Inv-loop μ-loop
     (λ c. search needs)
     (λ c. omega (arith, c .before .before .before .loop-test .taken, c .before .before .before .before .before .before .before .before .before .before .before .before .pre .1 .0, c .before .before .before .before .loop .inv .1, items-few _ _ _ _ (c .before .before .before .before .loop .inv .4 .tabled .sized)))
     (λ c. search needs) (λ c. search needs)

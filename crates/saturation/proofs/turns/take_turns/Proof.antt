@@ -34,11 +34,7 @@ returns : tie.Need-returns Inv-loop μ-loop
 returns c = let i = c .before .loop .inv in turns-all _ _ _ _ _ (i .5) (omega (arith, c .loop-test .left, i .1))
 
 pub take-turns-spec : {M : Type 1} → statement M
-take-turns-spec =
-    tie.close
-    (tie.spec
-    Inv-loop
-    μ-loop
+take-turns-spec = tie.close (tie.spec Inv-loop μ-loop
     loop-holds
     (λ c κs. c .before .before .before .before .loop .inv .4)
     (λ c. search needs)

@@ -27,9 +27,7 @@ returns-2 c =
     (turn-chosen _ _ _ _ _ _ l (free-smallest _ _ _ _ _ _ (p .tabled) _ _ (l .inside) (l .bare) (c .before .before .before .before .before .before .before .before .before .before .free-color .ensures)) (e .0), e .1)
 
 pub turn-spec : {M : Type 1} → statement M
-turn-spec =
-    tie.close
-    (tie.spec
+turn-spec = tie.close (tie.spec
     (λ c κs. tt) (λ c. search needs) (λ c. search needs) (λ c κs. search needs)
     take-color-requires
     (λ c. search needs) (λ c. search needs) (λ c. search needs)

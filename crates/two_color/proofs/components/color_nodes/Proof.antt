@@ -37,9 +37,7 @@ returns-2 c =
     }
 
 pub color-nodes-spec : {M : Type 1} → statement M
-color-nodes-spec =
-    tie.close
-    (tie.spec
+color-nodes-spec = tie.close (tie.spec
     (λ c κs. search needs)
     join-edges-requires
     (λ c. search needs) (λ c. search needs)

@@ -36,9 +36,7 @@ returns-2 c = join-apart _ _ _ _ _ _ _ _ _ _ (c .before .before .before .before 
     (⊎-elim (λ w. inl (w .0 .taken, w .1, w .2)) (λ w. inr (w .0 .left, w .1, w .2)) (c .before .if2 .came))
 
 pub join-spec : {M : Type 1} → statement M
-join-spec =
-    tie.close
-    (tie.spec
+join-spec = tie.close (tie.spec
     (λ c κs. (c .before .before .before .before .pre .0, c .before .before .before .before .pre .1 .0))
     root-of-requires-2
     same-length

@@ -45,11 +45,7 @@ returns-2 : tie.Need-returns-2 Inv-loop μ-loop
 returns-2 c = let i = c .before .loop .inv in taken-all _ _ _ _ _ (omega arith) (i .1) (i .2)
 
 pub join-edges-spec : {M : Type 1} → statement M
-join-edges-spec =
-    tie.close
-    (tie.spec
-    Inv-loop
-    μ-loop
+join-edges-spec = tie.close (tie.spec Inv-loop μ-loop
     loop-holds
     (λ c. omega arith) (λ c. omega arith) (λ c. omega (arith, c .before .before .before .before .before .before .pre .0 .even)) (λ c. omega arith) (λ c. omega arith) (λ c. omega arith) (λ c. omega (arith, c .before .before .before .before .before .before .before .pre .0 .even))
     join-requires

@@ -39,11 +39,7 @@ unfolding xor
 loop-again c = (climb-more _ _ _ _ _ _ _ (c .before .before .before .before .before .loop .inv .0) (c .before .if1 .left), simp length-set (c .before .before .before .before .before .loop .inv .1))
 
 pub root-of-spec : {M : Type 1} → statement M
-root-of-spec =
-    tie.close
-    (tie.spec
-    Inv-loop
-    μ-loop
+root-of-spec = tie.close (tie.spec Inv-loop μ-loop
     (λ c. omega arith)
     (λ c. (climb-none _ _ _ (c .before .pre .0) (c .before .pre .1), refl))
     (λ c. omega arith) (λ c. c .before .loop .inv .0 .inside)

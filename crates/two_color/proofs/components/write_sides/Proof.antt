@@ -29,11 +29,7 @@ returns : tie.Need-returns Inv-loop μ-loop
 returns c = λ low odd holds v h. c .before .loop .inv .right low odd holds v (omega arith)
 
 pub write-sides-spec : {M : Type 1} → statement M
-write-sides-spec =
-    tie.close
-    (tie.spec
-    Inv-loop
-    μ-loop
+write-sides-spec = tie.close (tie.spec Inv-loop μ-loop
     (λ c. colored-none _ _ _ _ (c .before .before .before .pre .0) (c .before .before .before .pre .1))
     (λ c. omega arith) (λ c. omega arith)
     (λ c. omega (arith, c .shared-slice-known3 .given (c .before .before .loop .v)))
