@@ -16,7 +16,7 @@ use Rattle.lists.proofs.SearchLaws.{equal-self}
 use Rattle.graph.specs.Color.{noColor}
 use Rattle.graph.specs.Colored.{colorOf, smallestFreeAt}
 use Rattle.greedy.specs.Turn.{uncolored, colorItem}
-use Rattle.greedy.proofs.TurnLaws.{uncolored-member, member-uncolored, uncolored-few, uncolored-less, Partial, partial-presets, partial-turn, partial-greedy, turn-color, turn-here, turn-other, turn-size}
+use Rattle.greedy.proofs.TurnLaws.{uncolored-member, member-uncolored, uncolored-few, uncolored-less, Partial, partial-presets, partial-turn, partial-greedy, turn-color, turn-here, turn-other, turn-size, color-item}
 use Rattle.greedy.specs.Greedy.{Neighborhood, Greedy}
 use Rattle.greedy.specs.Saturation.{saturation, uncoloredNeighbors, greater, greatest, saturationFrom, orderFrom, saturationColors, noneGreater, legalTurn, legalRun}
 -- No name of it is used: the rows are to be checked before the laws, so that a wrong definition is refused for what it gives.
@@ -132,8 +132,7 @@ module _ (nb : ℕ → List ℕ) where
         record { listed = m; inside = r .0; none = r .1; top = λ x p. greatest-greatest colors v vs x (subst (Mem x) e p) }
 
     turn-less : (colors : List ℕ) (u : ℕ) → length colors ≡ n → Turn colors u → length (uncolored (colorItem nb colors u) n) < length (uncolored colors n)
-    unfolding colorItem
-    turn-less colors u l t = uncolored-less colors n u (smallestFreeAt colors (nb u)) (omega arith) (t .listed) (turn-color nb n hood colors l u (t .inside))
+    turn-less colors u l t = rw (color-item nb colors u) (uncolored-less colors n u (smallestFreeAt colors (nb u)) (omega arith) (t .listed) (turn-color nb n hood colors l u (t .inside)))
 
     -- What has a colour keeps it.
     from-keeps : (turns : ℕ) (colors : List ℕ) → length colors ≡ n → (x : ℕ) → colorOf colors x ≢ noColor → colorOf (saturationFrom nb n turns colors) x ≡ colorOf colors x
@@ -172,8 +171,8 @@ module _ (nb : ℕ → List ℕ) where
     legal-turn colors u c t e = true-and _ _ (mem-elem u (uncolored colors n) (t .listed)) (true-and _ _ (none-greater colors u (uncolored colors n) (t .top)) (eq-eqb c (smallestFreeAt colors (nb u)) e))
 
     legal-next : (colors : List ℕ) (u : ℕ) (order answer : List ℕ) → Turn colors u → colorOf answer u ≡ smallestFreeAt colors (nb u) → legalRun nb n (colorItem nb colors u) order answer ≡ true → legalRun nb n colors (u ∷ order) answer ≡ true
-    unfolding legalRun colorItem
-    legal-next colors u order answer t e rest = true-and _ _ (legal-turn colors u (colorOf answer u) t e) (rw e rest)
+    unfolding legalRun
+    legal-next colors u order answer t e rest = true-and _ _ (legal-turn colors u (colorOf answer u) t e) (rw e (rw (color-item nb colors u) at rest))
 
     legal-done : (turns : ℕ) (colors : List ℕ) → uncolored colors n ≡ [] → legalRun nb n colors (orderFrom nb n turns colors) (saturationFrom nb n turns colors) ≡ true
     legal-done turns colors e = rw (order-done n turns colors e, from-done n turns colors e) (legal-end colors e)

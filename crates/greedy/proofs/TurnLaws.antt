@@ -118,6 +118,11 @@ partial-greedy nb n presets colors p all = record {
   supported = λ v h e. p .supported v h e (all v h);
 }
 
+-- What an item takes, for every file that need not open the definition.
+pub color-item : (nb : ℕ → List ℕ) (colors : List ℕ) (v : ℕ) → colorItem nb colors v ≡ set colors v (smallestFreeAt colors (nb v))
+unfolding colorItem
+color-item nb colors v = refl
+
 module _ (nb : ℕ → List ℕ) (n : ℕ) (hood : Neighborhood nb n) where
   module _ (colors : List ℕ) (size : length colors ≡ n) (v : ℕ) (inside : v < n) where
     abbrev chosen : ℕ

@@ -13,12 +13,13 @@ use Rattle.lists.proofs.Tests.{by-test}
 use Rattle.graph.specs.Color.{daysOf, noColor}
 use Rattle.graph.proofs.ColorLaws.{days-empty, days-colored, color-take}
 use Rattle.graph.specs.Colored.{colorOf}
-use Rattle.vizing.specs.MisraGries.{greatestColor, step, stepHeld, heldAfter, held, find}
+use Rattle.vizing.specs.MisraGries.{greatestColor, step, heldAfter, held, find}
 use native.Mathlib.Numerals.{add-one}
 use Rattle.graph.specs.Edges.{edgeCount}
 use Rattle.graph.specs.Stretch.{Table}
 use Rattle.vizing.specs.Demand3.{Admitted}
 use Rattle.vizing.proofs.Theorem.{max-degree-bound}
+use Rattle.vizing.proofs.DefinitionLaws.{step-list, step-edges, step-greatest}
 use Rattle.vizing.specs.Step.{Invariant}
 use Rattle.vizing.proofs.StepLaws.{run-keeps}
 use Rattle.vizing.proofs.Tally.{greatest-step, tally-same, tally-edges, tally-greatest}
@@ -150,24 +151,26 @@ module _ (n : ℕ) (ends starts entries work table marks : List ℕ) (t : Tally)
   }
 
   pub running-more : (t′ : Tally) (work′ table′ marks′ : List ℕ) → k < edgeCount ends → Tallied n ends starts entries work table marks k t t′ work′ table′ marks′ → Running n ends starts entries work′ table′ marks′ t′ (k + 1)
-  unfolding held heldAfter stepHeld topColor
+  unfolding held heldAfter topColor
   running-more t′ work′ table′ marks′ h s =
       let a = running .admitted in
       let m = edgeCount ends in
       let f = find ends m n work k in
       let g = greatest-step ends m n (InRange n ends) (a .simple) (a .inside) (a .edges) (palette n ends a) work k h now-kept in
       let e = s .stepped in
+      let before = heldAfter ends m n k in
+      let edges : t .edges + 1 ≡ suc (before .tally .edges) = rw (running-edges, tally-edges ends m n k) (add-one k) in
       record {
         admitted = a;
         rows = running .rows;
         bound = omega arith;
-        list = rw (add-one k) (e .list ∙ ap (λ (l : List ℕ). step ends m n l k) (running .list));
+        list = rw (add-one k) (e .list ∙ ap (λ (l : List ℕ). step ends m n l k) (running .list) ∙ sym (step-list ends m n before k));
         tabled = e .tabled;
         size = omega (arith, e .size, running .size);
         unmarked = λ j. omega (arith, e .marked j);
         tally = rw (add-one k) (tally-same (tallyOf t′) (heldAfter ends m n (suc k) .tally)
-            (ap (λ (x : Tally). x .edges) (s .noted) ∙ rw (running-edges, tally-edges ends m n k) (add-one k))
-            (ap (λ (x : Tally). x .greatest) (s .noted) ∙ (greater (t .greatest) (s .color) ∙ (ap (λ (i : ℕ). max i (s .color)) running-greatest ∙ (ap (max (greatestColor work)) (e .top) ∙ (sym g ∙ ap (λ (l : List ℕ). greatestColor (step ends m n l k)) (running .list)))))));
+            (ap (λ (x : Tally). x .edges) (s .noted) ∙ edges ∙ sym (step-edges ends m n before k))
+            (ap (λ (x : Tally). x .greatest) (s .noted) ∙ (greater (t .greatest) (s .color) ∙ (ap (λ (i : ℕ). max i (s .color)) running-greatest ∙ (ap (max (greatestColor work)) (e .top) ∙ (sym g ∙ (ap (λ (l : List ℕ). greatestColor (step ends m n l k)) (running .list) ∙ sym (step-greatest ends m n before k))))))));
       }
 
   -- All edges are done: the first m colours are the answer, and `days` comes from the tally.

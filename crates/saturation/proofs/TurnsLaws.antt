@@ -14,8 +14,8 @@ use Rattle.lists.specs.Member.{Mem}
 use Rattle.graph.specs.Color.{noColor}
 use Rattle.graph.specs.Colored.{colorOf, smallestFreeAt}
 use Rattle.graph.specs.declared.NodeIndex.{NodeIndex}
-use Rattle.greedy.specs.Turn.{uncolored, colorItem}
-use Rattle.greedy.proofs.TurnLaws.{last-colored, last-uncolored, uncolored-member}
+use Rattle.greedy.specs.Turn.{uncolored}
+use Rattle.greedy.proofs.TurnLaws.{last-colored, last-uncolored, uncolored-member, color-item}
 use Rattle.greedy.specs.Saturation.{greater, greatest, saturationFrom, saturationColors}
 use Rattle.greedy.proofs.SaturationLaws.{greatest-member}
 use Rattle.choice.specs.declared.Choice.{Choice}
@@ -139,8 +139,8 @@ module _ (nb : ℕ → List ℕ) (n : ℕ) where
 
   pub turn-chosen : (colors colors′ : List ℕ) (best c : ℕ) → Leads nb colors n best → c ≡ smallestFreeAt colors (nb best)
       → colors′ ≡ set colors best c → colors′ ≡ turnOf nb n colors
-  unfolding turnOf colorItem
-  turn-chosen colors colors′ best c l e p = p ∙ rw (turnOf, l .candidates, ← l .best-is, e)
+  unfolding turnOf
+  turn-chosen colors colors′ best c l e p = p ∙ rw (turnOf, l .candidates, ← l .best-is, color-item nb colors best, e)
 
   -- Where every item has a colour the run is over.
   over : (turns : ℕ) (colors : List ℕ) → uncolored colors n ≡ [] → saturationFrom nb n turns colors ≡ colors

@@ -1,5 +1,5 @@
 -- Laws of the definitions: what each search and test over a node's edges tells, cited instead of the definitions' text.
-use Prim.Native.Nat.{ℕ}
+use Prim.Native.Nat.{ℕ, suc}
 use mathlib.Core.Path.{_≡_, refl, sym, ap, _∙_}
 use mathlib.Core.Logic.{_⊎_, inl, inr, _≢_}
 use mathlib.Core.List.{List, [], _∷_}
@@ -16,7 +16,7 @@ use Rattle.lists.proofs.SearchLaws.{first-that-some, first-that-none}
 use Rattle.graph.proofs.ColorLaws.{NoneHas, color-set-other, is-colored-true, colored-true}
 use Rattle.graph.specs.Color.{noColor}
 use Rattle.graph.specs.Colored.{colorOf, isColored}
-use Rattle.vizing.specs.MisraGries.{edgeOfColor, isFree, store, joins, firstJoining}
+use Rattle.vizing.specs.MisraGries.{edgeOfColor, isFree, store, joins, firstJoining, greatestColor, step, Held, stepHeld}
 
 -- ---- options
 
@@ -112,3 +112,23 @@ unfolding store
 color-store-other l [] cs j n = refl
 color-store-other l (k ∷ ks) [] j n = refl
 color-store-other l (k ∷ ks) (c ∷ cs) j n = color-store-other (set l k c) ks cs j (λ p. n (inr p)) ∙ color-set-other l k c j (λ p. n (inl p))
+
+-- ---- what a step holds
+
+module _ (ends : List ℕ) (m n : ℕ) (h : Held) (k : ℕ) where
+  pub step-list : stepHeld ends m n h k .list ≡ step ends m n (h .list) k
+  unfolding stepHeld
+  step-list = refl
+
+  pub step-edges : stepHeld ends m n h k .tally .edges ≡ suc (h .tally .edges)
+  unfolding stepHeld
+  step-edges = refl
+
+  pub step-greatest : stepHeld ends m n h k .tally .greatest ≡ greatestColor (step ends m n (h .list) k)
+  unfolding stepHeld
+  step-greatest = refl
+
+  -- A step of another list of ends that leaves the same colours holds the same.
+  pub step-same : (first : List ℕ) (K : ℕ) → step first K n (h .list) k ≡ step ends m n (h .list) k → stepHeld first K n h k ≡ stepHeld ends m n h k
+  unfolding stepHeld
+  step-same first K e = rw e

@@ -16,10 +16,10 @@ use Rattle.graph.specs.Edges.{firstEnd, secondEnd, farEnd, edgesAt, edgeCount, 
 use Rattle.graph.proofs.EdgeLaws.{edges-at-nodup}
 use Rattle.graph.specs.Color.{noColor, smallestFree}
 use Rattle.graph.specs.Colored.{colorOf, isColored, coloredAmong, smallestFreeAt}
-use Rattle.vizing.specs.MisraGries.{edgeOfColor, isFree, store, firstJoining, path, swap, exchange, step, stepHeld, heldAfter, isNone, joins, Held, held}
+use Rattle.vizing.specs.MisraGries.{edgeOfColor, isFree, store, firstJoining, path, swap, exchange, step, heldAfter, isNone, joins, Held, held}
 use Rattle.vizing.proofs.StepForm.{growFan, lastFarEnd, placesTo, rotatePlaces, stepParts, step-form}
 use Rattle.graph.proofs.ColorLaws.{colored-inside, color-replicate, colored-edge, smallest-free-colored, is-colored-true, is-colored-false, colored-edges-append, colored-edges-keep}
-use Rattle.vizing.proofs.DefinitionLaws.{some-or-none, edge-of-color-some, first-joining-some, length-store, color-store-other, false-joins}
+use Rattle.vizing.proofs.DefinitionLaws.{some-or-none, edge-of-color-some, first-joining-some, length-store, color-store-other, false-joins, step-list, step-same}
 use lib.Seq.{getD-take, length-take-le}
 use lib.Dec.{eqb}
 use borrow.Author.Tests.{ne-eqb}
@@ -126,15 +126,15 @@ module _ (ends : List ℕ) (m n : ℕ) where
   -- ---- the run
 
   pub held-length : (k : ℕ) → length (heldAfter ends m n k .list) ≡ 4096
-  unfolding heldAfter stepHeld
+  unfolding heldAfter
   held-length zero = length-replicate 4096 noColor
-  held-length (suc k) = step-length (heldAfter ends m n k .list) k ∙ held-length k
+  held-length (suc k) = ap length (step-list ends m n (heldAfter ends m n k) k) ∙ step-length (heldAfter ends m n k .list) k ∙ held-length k
 
   -- "places from k on then still hold 65,535"
   pub held-uncolored : (k : ℕ) → UncoloredFrom (heldAfter ends m n k .list) k
-  unfolding heldAfter stepHeld
+  unfolding heldAfter
   held-uncolored zero j h = color-replicate 4096 j
-  held-uncolored (suc k) j h = step-uncolored (heldAfter ends m n k .list) (omega (arith, held-length k)) k (held-uncolored k) j h
+  held-uncolored (suc k) j h = ap (λ (l : List ℕ). colorOf l j) (step-list ends m n (heldAfter ends m n k) k) ∙ step-uncolored (heldAfter ends m n k .list) (omega (arith, held-length k)) k (held-uncolored k) j h
 
 -- ---- The first edges alone: their run, in their own incidence order, holds what the whole run holds after them.
 
@@ -295,11 +295,11 @@ module _ (first ends : List ℕ) (K : ℕ) (agree : (j : ℕ) → j < K → (fir
     step-agree l few rest k h = rw (step-form first K n l k, step-form ends m n l k, parts-agree l few rest k h)
 
     held-agree : (k : ℕ) → k ≤ K → heldAfter first K n k ≡ heldAfter ends m n k
-    unfolding heldAfter stepHeld
+    unfolding heldAfter
     held-agree zero h = refl
     held-agree (suc k) h =
         let l = heldAfter ends m n k .list in
-        rw (held-agree k (omega arith), step-agree l (omega (arith, held-length ends m n k)) (λ j b. held-uncolored ends m n k j (omega arith)) k h)
+        rw (held-agree k (omega arith)) (step-same ends m n (heldAfter ends m n k) k first K (step-agree l (omega (arith, held-length ends m n k)) (λ j b. held-uncolored ends m n k j (omega arith)) k h))
 
 -- ---- the first k edges
 

@@ -15,9 +15,9 @@ use lib.ListN.{length, set, length-set, length-replicate}
 use lib.Seq.{set-set}
 use Rattle.lists.specs.Member.{Mem, Nodup}
 use Rattle.lists.proofs.MemberLaws.{dec-mem}
-use Rattle.vizing.specs.MisraGries.{store, swap, exchange, step, stepHeld, heldAfter}
+use Rattle.vizing.specs.MisraGries.{store, swap, exchange, step, heldAfter}
 use Rattle.vizing.proofs.StepForm.{rotatePlaces, growFan, lastFarEnd, placesTo, StepParts, stepParts, step-form}
-use Rattle.vizing.proofs.DefinitionLaws.{length-store, color-store-other}
+use Rattle.vizing.proofs.DefinitionLaws.{length-store, color-store-other, step-list}
 use Rattle.vizing.proofs.Fan.{Moved, Rotated, lastEdge, last-member, UpTo, fan-edge, fan-at, up-to-free, up-to-member, up-to-nodup, fan-up-to, some-free, Grown, grown-fan, fan-nodup, grown-maximal, fan-grown, places-up-to, last-far-end, fan-length, rotated-other, rotated-from, rotation-proper}
 use native.Mathlib.Decide.{decLt}
 use Rattle.graph.proofs.TableLaws.{degree-bound}
@@ -308,11 +308,11 @@ module _ (ends : List ℕ) (m n : ℕ) (Ok : ℕ → Type 0) (S : Simple ends m)
 module _ (ends : List ℕ) (m n : ℕ) (Ok : ℕ → Type 0) (S : Simple ends m) (inside : (k : ℕ) → k < m → (firstEnd ends k < n) × (secondEnd ends k < n)) (small : m ≤ 4096)
     (P : Palette ends m n Ok) where
   pub run-keeps : (k : ℕ) → k ≤ m → Invariant ends m Ok k (heldAfter ends m n k .list)
-  unfolding heldAfter stepHeld
+  unfolding heldAfter
   run-keeps zero h = record {
     size = length-replicate 4096 noColor;
     proper = λ i j v a b colored e. absurd (colored (color-replicate 4096 i));
     done = λ j b. absurd (not-suc-le-zero b);
     rest = λ j b. color-replicate 4096 j;
   }
-  run-keeps (suc k) h = step-keeps ends m n Ok S inside small P (heldAfter ends m n k .list) k h (run-keeps k (omega arith))
+  run-keeps (suc k) h = rw (step-list ends m n (heldAfter ends m n k) k) (step-keeps ends m n Ok S inside small P (heldAfter ends m n k .list) k h (run-keeps k (omega arith)))

@@ -2,7 +2,8 @@
 use Prim.Native.Nat.{ℕ, zero, suc, _≤_, _<_, max}
 use mathlib.Core.Path.{_≡_, refl, ap, ap₂, sym, _∙_}
 use mathlib.Core.List.{List, [], _∷_}
-use Rattle.vizing.specs.MisraGries.{Tally, greatestColor, stepHeld, heldAfter, find, step}
+use Rattle.vizing.specs.MisraGries.{Tally, greatestColor, heldAfter, find, step}
+use Rattle.vizing.proofs.DefinitionLaws.{step-list, step-edges, step-greatest}
 -- No name of it is used: the rows are to be checked before the laws, so that a wrong definition is refused for what it gives.
 use Rattle.vizing.specs.Answers
 use mathlib.Core.Logic.{_⊎_, inl, inr, _≢_}
@@ -33,14 +34,14 @@ tally-same a b p q = ap₂ {C = Tally} (λ (x y : ℕ). record { edges = x; grea
 
 module _ (ends : List ℕ) (m n : ℕ) where
   pub tally-edges : (k : ℕ) → heldAfter ends m n k .tally .edges ≡ k
-  unfolding heldAfter stepHeld
+  unfolding heldAfter
   tally-edges zero = refl
-  tally-edges (suc k) = ap suc (tally-edges k)
+  tally-edges (suc k) = step-edges ends m n (heldAfter ends m n k) k ∙ ap suc (tally-edges k)
 
   pub tally-greatest : (k : ℕ) → heldAfter ends m n k .tally .greatest ≡ greatestColor (heldAfter ends m n k .list)
-  unfolding heldAfter stepHeld greatestColor
+  unfolding heldAfter greatestColor
   tally-greatest zero = refl
-  tally-greatest (suc k) = refl
+  tally-greatest (suc k) = let h = heldAfter ends m n k in step-greatest ends m n h k ∙ ap greatestColor (sym (step-list ends m n h k))
 
 -- ---- The greatest colour in use: a step raises it to the one colour that can be new, and never lowers it.
 
