@@ -4,6 +4,7 @@ ghost use Prim.Native.Nat.{ℕ, _≤_};
 ghost use lib.ListN.{length, getD};
 ghost use Rattle.choice.specs.Choice.{greatestBelow, countWith, optionOf, choiceOf};
 use graph::Color;
+use graph::Graph;
 use graph::NodeIndex;
 
 // The item whose turn it is, or none.
@@ -60,7 +61,7 @@ pub fn choose(colors: &[u16], saturations: &[u16], waiting: &[u16]) -> Choice
     ensures answer { λ r. let colors = now (colors .entry) in let saturations = now (saturations .entry) in let waiting = now (waiting .entry) in
         ⌜ optionOf r ≡ choiceOf colors saturations waiting ⌝ }
 {
-    if 4096 < colors.len() {
+    if Graph::MAX_EDGES < colors.len() {
         return Choice::Nothing;
     }
     if saturations.len() < colors.len() {

@@ -7,6 +7,7 @@ ghost use Rattle.color_marks.specs.Marks.{standsAt, acrossAll, around, s
 use edge_walk::edges_at;
 use graph::Color;
 use graph::EdgeIndex;
+use graph::Graph;
 use graph::NodeIndex;
 use items::Kind;
 use items::across;
@@ -157,7 +158,7 @@ fn mark_known(
         let colors = now (colors .entry) in let marks₀ = now (marks .entry) in
         ⌜ now (marks .exit) ≡ stored (markOf kind ends starts entries colors (color .0)) (around kind ends starts entries (item .0)) marks₀ ⌝ }
 {
-    let mut at = [0u8; 512];
+    let mut at = [0u8; Graph::MAX_NODES];
     let first = first_node(kind, ends, item);
     let second = second_node(kind, ends, item);
     let edges = edges_at(starts, entries, first);

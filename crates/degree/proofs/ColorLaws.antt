@@ -28,7 +28,7 @@ use Rattle.items.proofs.ItemsLaws.{items-few, free-smallest}
 use Rattle.degree.specs.Order.{fallingBuckets, degreeIn, Countable}
 use Rattle.degree.proofs.OrderLaws.{falling-same, degreeAmong, degree-among, order-buckets, order-member, order-nodup}
 use Rattle.degree.proofs.PlaceLaws.{zeros-at}
-use Rattle.degree.specs.Color.{Room, Waiting}
+use Rattle.degree.specs.Color.{OrderRoom, Waiting}
 
 -- ---- degrees
 
@@ -40,7 +40,7 @@ degrees-next nb degrees v d known h e u b = elim (dec-eq u v) [
   | inr o ↦ getD-set-other degrees v u d 0 o ∙ known u (omega (arith, o))
 ]
 
-pub nodes-room : (n : ℕ) (ends : List ℕ) → Passed n ends → Room Nodes n ends (replicate 512 0) (replicate 4097 0) (replicate 512 0)
+pub nodes-room : (n : ℕ) (ends : List ℕ) → Passed n ends → OrderRoom Nodes n ends (replicate 512 0) (replicate 4097 0) (replicate 512 0)
 unfolding neighborsOf
 nodes-room n ends passed = record {
   degrees-room = rw (length-replicate {A = ℕ} 512 0) (passed .nodes);
@@ -60,7 +60,7 @@ edge-few n ends passed k h =
       | inr d ↦ omega (arith, line-neighbor-count ends m k h d, first, degree-bound ends m (secondEnd ends k), passed .edges)
     ])
 
-pub edges-room : (n : ℕ) (ends : List ℕ) → Passed n ends → Room Edges n ends (replicate 4096 0) (replicate 8191 0) (replicate 4096 0)
+pub edges-room : (n : ℕ) (ends : List ℕ) → Passed n ends → OrderRoom Edges n ends (replicate 4096 0) (replicate 8191 0) (replicate 4096 0)
 edges-room n ends passed = record {
   degrees-room = rw (length-replicate {A = ℕ} 4096 0) (passed .edges);
   order-room = rw (length-replicate {A = ℕ} 4096 0) (passed .edges);
@@ -87,7 +87,7 @@ module _ (nb : ℕ → List ℕ) (n top : ℕ) (presets degrees : List ℕ) (kno
       ∙ sym (order-buckets nb n presets top (λ v h. omega (arith, degree-among nb v, few v h)))))
 
 -- The same of lists with room, once the degrees are noted.
-module _ (kind : Kind) (n : ℕ) (ends presets degrees₀ degrees counts order : List ℕ) (passed : Passed n ends) (room : Room kind n ends degrees₀ counts order) (l : length presets ≡ itemsOf kind n ends)
+module _ (kind : Kind) (n : ℕ) (ends presets degrees₀ degrees counts order : List ℕ) (passed : Passed n ends) (room : OrderRoom kind n ends degrees₀ counts order) (l : length presets ≡ itemsOf kind n ends)
     (known : (v : ℕ) → v < length presets → getD degrees v 0 ≡ length (neighborsOf kind n ends v)) where
   item-known : (v : ℕ) → v < itemsOf kind n ends → getD degrees v 0 ≡ length (neighborsOf kind n ends v)
   item-known v h = known v (omega arith)

@@ -12,7 +12,7 @@ use Rattle.items.specs.Items.{itemsOf, neighborsOf}
 -- ---- degrees
 
 -- The lists to work with have a place for each item, and the counts, all 0, one for each degree.
-pub record Room (kind : Kind) (n : ℕ) (ends degrees counts order : List ℕ) : Type 0 where
+pub record OrderRoom (kind : Kind) (n : ℕ) (ends degrees counts order : List ℕ) : Type 0 where
   pub degrees-room : itemsOf kind n ends ≤ length degrees
   pub order-room : itemsOf kind n ends ≤ length order
   pub counts-room : (v : ℕ) → v < itemsOf kind n ends → length (neighborsOf kind n ends v) < length counts

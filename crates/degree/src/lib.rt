@@ -9,9 +9,10 @@ ghost use Rattle.graph.specs.Color.{daysOf};
 ghost use Rattle.greedy.specs.Degree.{colorInOrder, degreeColors};
 ghost use Rattle.items.specs.declared.Kind.the-variants.{Nodes, Edges};
 ghost use Rattle.items.specs.Items.{itemsOf, neighborsOf, greedyOf, Tabled};
-ghost use Rattle.degree.specs.Color.{Waiting, Room};
+ghost use Rattle.degree.specs.Color.{Waiting, OrderRoom};
 use graph::Checked;
 use graph::Coloring;
+use graph::Graph;
 use graph::NodeIndex;
 use graph::copy_colors;
 use graph::days_of;
@@ -107,13 +108,13 @@ fn color_checked(
 ) -> usize
     requires { ⌜ Passed n (now ends) ⌝ }
     requires { ⌜ (length (now presets) ≡ itemsOf kind n (now ends)) × (length (now colors) ≡ itemsOf kind n (now ends)) ⌝ }
-    requires { ⌜ Room kind n (now ends) (now degrees) (now counts) (now order) ⌝ }
+    requires { ⌜ OrderRoom kind n (now ends) (now degrees) (now counts) (now order) ⌝ }
     ensures answer { λ r. ⌜ r ≡ daysOf (now (colors .exit)) ⌝ }
     ensures colors { λ _. let ends = now (ends .entry) in let presets = now (presets .entry) in
         ⌜ now (colors .exit) ≡ degreeColors (neighborsOf kind n ends) (itemsOf kind n ends) presets ⌝ }
 {
-    let mut starts = [0u16; 513];
-    let mut entries = [0u16; 8192];
+    let mut starts = [0u16; Graph::STARTS];
+    let mut entries = [0u16; Graph::ENTRIES];
     incidence_front(n, ends, &mut starts, &mut entries);
     note_degrees(kind, n, ends, &starts, &entries, presets.len(), degrees);
     let count = falling_order(degrees, presets, counts, order);
@@ -130,9 +131,9 @@ fn color_checked_nodes(n: usize, ends: &[u16], presets: &[u16], colors: &mut [u1
     ensures colors { λ _. let ends = now (ends .entry) in let presets = now (presets .entry) in
         ⌜ now (colors .exit) ≡ degreeColors (neighborsOf Nodes n ends) (itemsOf Nodes n ends) presets ⌝ }
 {
-    let mut degrees = [0u16; 512];
+    let mut degrees = [0u16; Graph::MAX_NODES];
     let mut counts = [0u16; 4097];
-    let mut order = [0u16; 512];
+    let mut order = [0u16; Graph::MAX_NODES];
     color_checked(
         Kind::Nodes,
         n,
@@ -153,9 +154,9 @@ fn color_checked_edges(n: usize, ends: &[u16], presets: &[u16], colors: &mut [u1
     ensures colors { λ _. let ends = now (ends .entry) in let presets = now (presets .entry) in
         ⌜ now (colors .exit) ≡ degreeColors (neighborsOf Edges n ends) (itemsOf Edges n ends) presets ⌝ }
 {
-    let mut degrees = [0u16; 4096];
+    let mut degrees = [0u16; Graph::MAX_EDGES];
     let mut counts = [0u16; 8191];
-    let mut order = [0u16; 4096];
+    let mut order = [0u16; Graph::MAX_EDGES];
     color_checked(
         Kind::Edges,
         n,

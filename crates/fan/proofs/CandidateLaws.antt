@@ -21,8 +21,8 @@ use Rattle.edge_table.specs.EdgeTable.{isEmpty}
 use Rattle.fan.specs.Candidates.{mayJoin, joinsMarked}
 
 -- No candidate before place lo may join.
-unfoldable pub Passed : List ℕ → List ℕ → ℕ → List ℕ → ℕ → Type 0
-Passed l M s near lo = (k : ℕ) → Mem k (take lo near) → mayJoin l M s k ≡ false
+unfoldable pub NoneJoins : List ℕ → List ℕ → ℕ → List ℕ → ℕ → Type 0
+NoneJoins l M s near lo = (k : ℕ) → Mem k (take lo near) → mayJoin l M s k ≡ false
 
 -- ---- the tests, by what was read
 
@@ -56,8 +56,8 @@ module _ (l T M : List ℕ) (s x k c : ℕ) (color : c ≡ colorOf l k) where
 
 -- ---- the place before which no candidate may join
 
-pub passed-none : (l M : List ℕ) (s : ℕ) (near : List ℕ) → Passed l M s near 0
-unfolding Passed
+pub passed-none : (l M : List ℕ) (s : ℕ) (near : List ℕ) → NoneJoins l M s near 0
+unfolding NoneJoins
 passed-none l M s near k p = absurd p
 
 -- The place, as the code goes on with it.
@@ -84,8 +84,8 @@ before-place t (j ∷ ks) k p = by-test (t j)
     (λ u. absurd (simp u at p))
     (λ u. elim (simp u at p) [ inl z ↦ rw z u | inr z ↦ before-place t ks k z ])
 
-pub passed-skipped : (l M : List ℕ) (s : ℕ) (near : List ℕ) (from r : ℕ) → r ≡ from + firstPlace (mayJoin l M s) (drop from near) → Passed l M s near from → Passed l M s near r
-unfolding Passed
+pub passed-skipped : (l M : List ℕ) (s : ℕ) (near : List ℕ) (from r : ℕ) → r ≡ from + firstPlace (mayJoin l M s) (drop from near) → NoneJoins l M s near from → NoneJoins l M s near r
+unfolding NoneJoins
 passed-skipped l M s near from r e passed k q =
     let p = firstPlace (mayJoin l M s) (drop from near) in
     elim (mem-append k (take from near) (take p (drop from near)) (rw (e, take-add from p near) at q)) [

@@ -40,6 +40,12 @@ impl Graph {
 
     pub const MAX_EDGES: usize = 4096;
 
+    // A start for each node, and one more.
+    pub const STARTS: usize = 513;
+
+    // Two for each edge: the ends of a list, and the entries of a table.
+    pub const ENTRIES: usize = 8192;
+
     pub fn new(nodes: usize, edges: usize) -> Self
         ensures answer { λ r. ⌜ (r .nodes ≡ nodes) × (r .edges ≡ edges) ⌝ }
     {

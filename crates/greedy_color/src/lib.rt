@@ -24,7 +24,7 @@ pub fn greedy_node_color(n: usize, ends: &[u16], colors: &mut [u16]) -> Coloring
         ⌜ (Passed n ends → length colors ≡ n → Accepted (reportOfColoring r)) ⌝ }
     ensures proper { λ r. ⌜ ProperNodeColoring n (now (ends .entry)) [] (reportOfColoring r) (now (colors .exit)) ⌝ }
 {
-    let presets = [Color::NONE; 512];
+    let presets = [Color::NONE; Graph::MAX_NODES];
     let lent = colors.len();
     if lent <= Graph::MAX_NODES {
         degree::color(Kind::Nodes, n, ends, &presets[..lent], colors)
@@ -88,7 +88,7 @@ pub fn greedy_edge_color(n: usize, ends: &[u16], colors: &mut [u16]) -> Coloring
         ⌜ (Passed n ends → length colors ≡ edgeCount ends → Accepted (reportOfColoring r)) ⌝ }
     ensures proper { λ r. ⌜ ProperEdgeColoring (now (ends .entry)) [] (reportOfColoring r) (now (colors .exit)) ⌝ }
 {
-    let presets = [Color::NONE; 4096];
+    let presets = [Color::NONE; Graph::MAX_EDGES];
     let lent = colors.len();
     if lent <= Graph::MAX_EDGES {
         degree::color(Kind::Edges, n, ends, &presets[..lent], colors)

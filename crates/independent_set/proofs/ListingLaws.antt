@@ -17,14 +17,14 @@ use Rattle.lists.proofs.MemberLaws.{elem-true, mem-elem, not-mem-elem, mem-getD
 use Rattle.graph.proofs.ColorLaws.{color-read, colored-true, uncolored-false}
 use Rattle.greedy.specs.Turn.{uncolored}
 use Rattle.greedy.specs.IndependentSet.{placeOf, takeOut, Lists, putOff}
-use Rattle.independent_set.specs.Listing.{Listing, Held, listsAt}
+use Rattle.independent_set.specs.Listing.{Listing, ListsHeld, listsAt}
 
 -- ---- what the arrays hold
 
-pub lists-held : (n : ℕ) (listed place next : List ℕ) (len end : ℕ) (s : Lists) → Held n listed place next len end s → listsAt listed next len end ≡ s
+pub lists-held : (n : ℕ) (listed place next : List ℕ) (len end : ℕ) (s : Lists) → ListsHeld n listed place next len end s → listsAt listed next len end ≡ s
 lists-held n listed place next len end s h = ap₂ (λ (a b : List ℕ). record { listed = a; next = b }) (h .first .held) (h .second .held)
 
-pub held-at : (n : ℕ) (listed place next : List ℕ) (len end : ℕ) (s : Lists) → Held n listed place next len end s → Held n listed place next len end (listsAt listed next len end)
+pub held-at : (n : ℕ) (listed place next : List ℕ) (len end : ℕ) (s : Lists) → ListsHeld n listed place next len end s → ListsHeld n listed place next len end (listsAt listed next len end)
 held-at n listed place next len end s h = rw (lists-held n listed place next len end s h) h
 
 pub listing-at : (m n : ℕ) (listed place : List ℕ) (len : ℕ) (items : List ℕ) → m ≡ n → Listing m listed place len items → Listing n listed place len (take len listed)
@@ -121,7 +121,7 @@ module _ (n v : ℕ) (presets listed place : List ℕ) (len : ℕ) (l : Listing 
 
 -- ---- taking out
 
-module _ (n : ℕ) (listed place next : List ℕ) (len end : ℕ) (s : Lists) (h : Held n listed place next len end s) (v : ℕ) (m : Mem v (s .listed)) where
+module _ (n : ℕ) (listed place next : List ℕ) (len end : ℕ) (s : Lists) (h : ListsHeld n listed place next len end s) (v : ℕ) (m : Mem v (s .listed)) where
   -- Where v stands, and what stands last.
   abbrev hole : ℕ
   hole = getD place v 0
@@ -169,7 +169,7 @@ module _ (n : ℕ) (listed place next : List ℕ) (len end : ℕ) (s : Lists) (h
       let e = item-at n listed place len (s .listed) (h .first) (len - 1) (omega (arith, at .0)) in
       rw (l, p, e) (sym (ap (λ (x : List ℕ). take (len - 1) (set x hole last)) (sym (h .first .held)) ∙ (ap (take (len - 1)) (sym (take-set-lt len listed hole last (at .0))) ∙ take-take (len - 1) len (set listed hole last) (omega arith))))
 
-  pub taken-out : (listed′ place′ : List ℕ) → listed′ ≡ set listed hole last → place′ ≡ set place last hole → Held n listed′ place′ next (len - 1) end (record { listed = takeOut v (s .listed); next = s .next })
+  pub taken-out : (listed′ place′ : List ℕ) → listed′ ≡ set listed hole last → place′ ≡ set place last hole → ListsHeld n listed′ place′ next (len - 1) end (record { listed = takeOut v (s .listed); next = s .next })
   taken-out listed′ place′ p q = rw (p, q) (record {
     first = record {
       few = h .first .few;
@@ -197,7 +197,7 @@ module _ (n : ℕ) (listed place next : List ℕ) (len end : ℕ) (s : Lists) (h
 
   -- The item taken out goes to the end of the next list.
   pub put-off-taken : (listed′ place′ : List ℕ) → listed′ ≡ set listed hole last → place′ ≡ set place last hole
-      → Held n listed′ (set place′ v end) (set next end v) (len - 1) (end + 1) (record { listed = takeOut v (s .listed); next = s .next ++ v ∷ [] })
+      → ListsHeld n listed′ (set place′ v end) (set next end v) (len - 1) (end + 1) (record { listed = takeOut v (s .listed); next = s .next ++ v ∷ [] })
   put-off-taken listed′ place′ p q =
       let t = taken-out listed′ place′ p q in
       let gone : (j : ℕ) → j < len - 1 → getD listed′ j 0 ≢ v = λ j b. rw p (taken-gone j b) in
@@ -231,12 +231,12 @@ pub put-off-no : (s : Lists) (v : ℕ) → elem v (s .listed) ≡ false → putO
 unfolding putOff
 put-off-no s v e = rw e
 
-module _ (n : ℕ) (listed place next : List ℕ) (len end : ℕ) (s : Lists) (h : Held n listed place next len end s) (v : ℕ) (r : Bool) (e : r ≡ elem v (s .listed)) where
+module _ (n : ℕ) (listed place next : List ℕ) (len end : ℕ) (s : Lists) (h : ListsHeld n listed place next len end s) (v : ℕ) (r : Bool) (e : r ≡ elem v (s .listed)) where
   pub put-off-listed : r ≡ true → (listed′ place′ : List ℕ) → listed′ ≡ set listed (getD place v 0) (getD listed (len - 1) 0) → place′ ≡ set place (getD listed (len - 1) 0) (getD place v 0)
-      → Held n listed′ (set place′ v end) (set next end v) (len - 1) (end + 1) (putOff s v)
+      → ListsHeld n listed′ (set place′ v end) (set next end v) (len - 1) (end + 1) (putOff s v)
   unfolding putOff
   put-off-listed t listed′ place′ p q = rw (sym e ∙ t) (put-off-taken n listed place next len end s h v (elem-true v (s .listed) (sym e ∙ t)) listed′ place′ p q)
 
-  pub put-off-other : r ≡ false → Held n listed place next len end (putOff s v)
+  pub put-off-other : r ≡ false → ListsHeld n listed place next len end (putOff s v)
   unfolding putOff
   put-off-other t = rw (sym e ∙ t) h

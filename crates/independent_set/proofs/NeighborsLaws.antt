@@ -9,11 +9,11 @@ use Rattle.graph.specs.Check.{Passed}
 use Rattle.graph.specs.Edges.{edgeCount, neighbors, farEnd, firstEnd, secondEnd, isLoop, edgesAt}
 use Rattle.greedy.specs.Call.{edgeNeighbors}
 use Rattle.independent_set.specs.declared.items.Items.{Items}
-use Rattle.independent_set.specs.Items.{neighborsOf, countOf, Tabled}
+use Rattle.independent_set.specs.Items.{neighborsOf, countOf, ItemsTabled}
 use lib.ListN.{length, getD, drop, take}
 use lib.Seq.{drop-cons, drop-length, take-all}
 use Rattle.greedy.specs.IndependentSet.{Lists, putOff, putOffAll}
-use Rattle.independent_set.specs.Listing.{Held, listsAt}
+use Rattle.independent_set.specs.Listing.{ListsHeld, listsAt}
 use Rattle.independent_set.proofs.ListingLaws.{lists-held}
 use native.Mathlib.Nat.{not-suc-le-zero}
 use native.Mathlib.Numerals.{add-one}
@@ -40,7 +40,7 @@ items-few items ends p e = by-test (items .edges) (λ t. omega (arith, rw t at e
 
 -- ---- by kind
 
-module _ (items : Items) (ends starts entries : List ℕ) (known : Tabled items ends starts entries) where
+module _ (items : Items) (ends starts entries : List ℕ) (known : ItemsTabled items ends starts entries) where
   pub nodes-count : items .edges ≡ false → items .count ≡ items .nodes
   unfolding countOf
   nodes-count e = rw e at (known .all)
@@ -69,16 +69,16 @@ unfolding putOffAll
 put-off-last s xs y = rw (reverse-cons y xs) (put-off-append s (reverse xs) (y ∷ []))
 
 module _ (m : ℕ) (s : Lists) (listed place next : List ℕ) (len end : ℕ) where
-  pub part-start : (edges : List ℕ) → Held m listed place next len end s → Held m listed place next len end (putOffAll s (reverse (drop (length edges) edges)))
+  pub part-start : (edges : List ℕ) → ListsHeld m listed place next len end s → ListsHeld m listed place next len end (putOffAll s (reverse (drop (length edges) edges)))
   unfolding putOffAll
   part-start edges h = rw (drop-length edges) h
 
-  pub part-done : (edges : List ℕ) (i : ℕ) → i ≤ 0 → Held m listed place next len end (putOffAll s (reverse (drop i edges))) → Held m listed place next len end (putOffAll s (reverse edges))
+  pub part-done : (edges : List ℕ) (i : ℕ) → i ≤ 0 → ListsHeld m listed place next len end (putOffAll s (reverse (drop i edges))) → ListsHeld m listed place next len end (putOffAll s (reverse edges))
   part-done edges i b h = let e : i ≡ 0 = omega arith in rw e at h
 
-  pub part-more : (edges : List ℕ) (i : ℕ) → 0 < i → i ≤ length edges → Held m listed place next len end (putOffAll s (reverse (drop i edges)))
-      → (v : ℕ) → v ≡ getD edges (i - 1) 0 → (listed′ place′ next′ : List ℕ) (len′ end′ : ℕ) → Held m listed′ place′ next′ len′ end′ (putOff (listsAt listed next len end) v)
-      → Held m listed′ place′ next′ len′ end′ (putOffAll s (reverse (drop (i - 1) edges)))
+  pub part-more : (edges : List ℕ) (i : ℕ) → 0 < i → i ≤ length edges → ListsHeld m listed place next len end (putOffAll s (reverse (drop i edges)))
+      → (v : ℕ) → v ≡ getD edges (i - 1) 0 → (listed′ place′ next′ : List ℕ) (len′ end′ : ℕ) → ListsHeld m listed′ place′ next′ len′ end′ (putOff (listsAt listed next len end) v)
+      → ListsHeld m listed′ place′ next′ len′ end′ (putOffAll s (reverse (drop (i - 1) edges)))
   part-more edges i a b h v p listed′ place′ next′ len′ end′ k =
       let e : suc (i - 1) ≡ i = omega arith in
       rw (drop-cons edges (i - 1) 0 (omega arith), put-off-last s (drop (suc (i - 1)) edges) (getD edges (i - 1) 0), e, ← p) (rw (lists-held m listed place next len end (putOffAll s (reverse (drop i edges))) h) at k)
@@ -93,11 +93,11 @@ put-off-one-more f s [] i h = absurd (not-suc-le-zero h)
 put-off-one-more f s (x ∷ l) zero h = refl
 put-off-one-more f s (x ∷ l) (suc i) h = put-off-one-more f (putOff s (f x)) l i (omega arith)
 
-pub neighbors-none : (n : ℕ) (listed place next : List ℕ) (len end : ℕ) (s : Lists) → Held n listed place next len end s → Held n listed place next len end (putOffAll s [])
+pub neighbors-none : (n : ℕ) (listed place next : List ℕ) (len end : ℕ) (s : Lists) → ListsHeld n listed place next len end s → ListsHeld n listed place next len end (putOffAll s [])
 unfolding putOffAll
 neighbors-none n listed place next len end s h = h
 
-module _ (items : Items) (ends starts entries edges : List ℕ) (v : ℕ) (kind : items .edges ≡ false) (known : Tabled items ends starts entries) (less : v < items .count) (e : edges ≡ stretch starts entries v) where
+module _ (items : Items) (ends starts entries edges : List ℕ) (v : ℕ) (kind : items .edges ≡ false) (known : ItemsTabled items ends starts entries) (less : v < items .count) (e : edges ≡ stretch starts entries v) where
   edges-same : edges ≡ edgesAt ends (edgeCount ends) v
   edges-same = e ∙ known .table .row v (omega (arith, nodes-count items ends starts entries known kind))
 
@@ -107,14 +107,14 @@ module _ (items : Items) (ends starts entries edges : List ℕ) (v : ℕ) (kind 
       (passed-neighbor (items .nodes) ends (known .passed) v far
       (rw (p, neighbors-far-ends ends (edgeCount ends) v, ← edges-same) (mem-map (λ (j : ℕ). farEnd ends j v) (getD edges i 0) edges (mem-getD edges i 0 h))))
 
-  pub neighbors-done : (i : ℕ) (listed place next : List ℕ) (len end : ℕ) (s : Lists) → length edges ≤ i → Held (items .count) listed place next len end (putOffAll s (map (λ (j : ℕ). farEnd ends j v) (take i edges)))
-      → Held (items .count) listed place next len end (putOffAll s (neighborsOf items ends v))
+  pub neighbors-done : (i : ℕ) (listed place next : List ℕ) (len end : ℕ) (s : Lists) → length edges ≤ i → ListsHeld (items .count) listed place next len end (putOffAll s (map (λ (j : ℕ). farEnd ends j v) (take i edges)))
+      → ListsHeld (items .count) listed place next len end (putOffAll s (neighborsOf items ends v))
   neighbors-done i listed place next len end s b h = rw (nodes-neighbors items ends v kind, neighbors-far-ends ends (edgeCount ends) v, ← edges-same) (rw (take-all i edges b) at h)
 
 pub neighbors-more : (n : ℕ) (ends edges : List ℕ) (v i far : ℕ) (s : Lists) (listed place next : List ℕ) (len end : ℕ) (listed′ place′ next′ : List ℕ) (len′ end′ : ℕ)
-    → Held n listed place next len end (putOffAll s (map (λ (j : ℕ). farEnd ends j v) (take i edges))) → i < length edges → far ≡ farEnd ends (getD edges i 0) v
-    → Held n listed′ place′ next′ len′ end′ (putOff (listsAt listed next len end) far)
-    → Held n listed′ place′ next′ len′ end′ (putOffAll s (map (λ (j : ℕ). farEnd ends j v) (take (i + 1) edges)))
+    → ListsHeld n listed place next len end (putOffAll s (map (λ (j : ℕ). farEnd ends j v) (take i edges))) → i < length edges → far ≡ farEnd ends (getD edges i 0) v
+    → ListsHeld n listed′ place′ next′ len′ end′ (putOff (listsAt listed next len end) far)
+    → ListsHeld n listed′ place′ next′ len′ end′ (putOffAll s (map (λ (j : ℕ). farEnd ends j v) (take (i + 1) edges)))
 neighbors-more n ends edges v i far s listed place next len end listed′ place′ next′ len′ end′ h b p k =
     rw (add-one i, put-off-one-more (λ (j : ℕ). farEnd ends j v) s edges i b, ← p) (rw (lists-held n listed place next len end (putOffAll s (map (λ (j : ℕ). farEnd ends j v) (take i edges))) h) at k)
 
@@ -135,7 +135,7 @@ part-member true ends k v j p = edge-at ends (edgeCount ends) v j (after-member 
 part-member false ends k v j p = edge-at ends (edgeCount ends) v j (before-member k j (edgesAt ends (edgeCount ends) v) p .0) .0
 
 -- Over a table the edges at a node are those of the graph.
-module _ (items : Items) (ends starts entries : List ℕ) (k : ℕ) (kind : items .edges ≡ true) (known : Tabled items ends starts entries) (few : k < items .count) where
+module _ (items : Items) (ends starts entries : List ℕ) (k : ℕ) (kind : items .edges ≡ true) (known : ItemsTabled items ends starts entries) (few : k < items .count) where
   less : k < edgeCount ends
   less = omega (arith, edges-count items ends starts entries known kind)
 
@@ -167,16 +167,16 @@ module _ (items : Items) (ends starts entries : List ℕ) (k : ℕ) (kind : item
 -- ---- putting off part by part
 
 module _ (m : ℕ) (s : Lists) (listed place next : List ℕ) (len end : ℕ) (at : ℕ → List ℕ) (ends : List ℕ) (k : ℕ) where
-  pub parts-none : Held m listed place next len end s → Held m listed place next len end (putOffAll s (partsTo at ends k 0))
+  pub parts-none : ListsHeld m listed place next len end s → ListsHeld m listed place next len end (putOffAll s (partsTo at ends k 0))
   unfolding partsTo putOffAll
   parts-none h = h
 
-  pub parts-more : (turn : ℕ) (part : List ℕ) → part ≡ partAt at ends k turn → Held m listed place next len end (putOffAll s (partsTo at ends k turn))
-      → (listed′ place′ next′ : List ℕ) (len′ end′ : ℕ) → Held m listed′ place′ next′ len′ end′ (putOffAll (listsAt listed next len end) (reverse part))
-      → Held m listed′ place′ next′ len′ end′ (putOffAll s (partsTo at ends k (turn + 1)))
+  pub parts-more : (turn : ℕ) (part : List ℕ) → part ≡ partAt at ends k turn → ListsHeld m listed place next len end (putOffAll s (partsTo at ends k turn))
+      → (listed′ place′ next′ : List ℕ) (len′ end′ : ℕ) → ListsHeld m listed′ place′ next′ len′ end′ (putOffAll (listsAt listed next len end) (reverse part))
+      → ListsHeld m listed′ place′ next′ len′ end′ (putOffAll s (partsTo at ends k (turn + 1)))
   unfolding partsTo
   parts-more turn part e h listed′ place′ next′ len′ end′ g =
       rw (add-one turn, ← e, put-off-append s (partsTo at ends k turn) (reverse part)) (rw (lists-held m listed place next len end (putOffAll s (partsTo at ends k turn)) h) at g)
 
-  pub parts-done : (turn : ℕ) (all : List ℕ) → turn ≤ 4 → 4 ≤ turn → partsTo at ends k 4 ≡ all → Held m listed place next len end (putOffAll s (partsTo at ends k turn)) → Held m listed place next len end (putOffAll s all)
-  parts-done turn all a b e h = let f : turn ≡ 4 = omega arith in subst (λ (l : List ℕ). Held m listed place next len end (putOffAll s l)) (ap (partsTo at ends k) f ∙ e) h
+  pub parts-done : (turn : ℕ) (all : List ℕ) → turn ≤ 4 → 4 ≤ turn → partsTo at ends k 4 ≡ all → ListsHeld m listed place next len end (putOffAll s (partsTo at ends k turn)) → ListsHeld m listed place next len end (putOffAll s all)
+  parts-done turn all a b e h = let f : turn ≡ 4 = omega arith in subst (λ (l : List ℕ). ListsHeld m listed place next len end (putOffAll s l)) (ap (partsTo at ends k) f ∙ e) h

@@ -17,7 +17,7 @@ use Rattle.graph.specs.Colored.{colorOf}
 use Rattle.graph.proofs.ColorLaws.{color-read}
 use Rattle.greedy.specs.Turn.{uncolored}
 use Rattle.greedy.specs.IndependentSet.{takeOut, Lists, putOff, putOffAll, Round, putOffPresets, colorListed, round, rounds, independentSetColors}
-use Rattle.independent_set.specs.Listing.{Listing, Held, listsAt}
+use Rattle.independent_set.specs.Listing.{Listing, ListsHeld, listsAt}
 use Rattle.independent_set.proofs.ListingLaws.{lists-held, held-at, put-off-yes, put-off-no, length-items, place-item, item-at, taken-out}
 use Rattle.independent_set.specs.Rounds.{Rounded}
 
@@ -46,33 +46,33 @@ copied-front len from to a b =
 
 -- ---- the presets of a colour
 
-pub presets-none : (n : ℕ) (nb : ℕ → List ℕ) (presets listed place next : List ℕ) (len end r : ℕ) (s : Lists) → Held n listed place next len end s → Held n listed place next len end (putOffPresets nb presets r 0 s)
+pub presets-none : (n : ℕ) (nb : ℕ → List ℕ) (presets listed place next : List ℕ) (len end r : ℕ) (s : Lists) → ListsHeld n listed place next len end s → ListsHeld n listed place next len end (putOffPresets nb presets r 0 s)
 unfolding putOffPresets
 presets-none n nb presets listed place next len end r s h = h
 
-module _ (n : ℕ) (nb : ℕ → List ℕ) (presets : List ℕ) (v r : ℕ) (s : Lists) (listed place next : List ℕ) (len end : ℕ) (h : Held n listed place next len end (putOffPresets nb presets r v s)) (size : length presets ≡ n) (less : v < n) where
-  pub presets-more : (listed′ place′ next′ : List ℕ) (len′ end′ : ℕ) → getD presets v 0 ≡ r → Held n listed′ place′ next′ len′ end′ (putOffAll (listsAt listed next len end) (nb v))
-      → Held n listed′ place′ next′ len′ end′ (putOffPresets nb presets r (v + 1) s)
+module _ (n : ℕ) (nb : ℕ → List ℕ) (presets : List ℕ) (v r : ℕ) (s : Lists) (listed place next : List ℕ) (len end : ℕ) (h : ListsHeld n listed place next len end (putOffPresets nb presets r v s)) (size : length presets ≡ n) (less : v < n) where
+  pub presets-more : (listed′ place′ next′ : List ℕ) (len′ end′ : ℕ) → getD presets v 0 ≡ r → ListsHeld n listed′ place′ next′ len′ end′ (putOffAll (listsAt listed next len end) (nb v))
+      → ListsHeld n listed′ place′ next′ len′ end′ (putOffPresets nb presets r (v + 1) s)
   unfolding putOffPresets
   presets-more listed′ place′ next′ len′ end′ e k =
       let t = eq-eqb (colorOf presets v) r (sym (color-read presets v 0 (omega arith)) ∙ e) in
       rw (add-one v, putOffPresets, t) (rw (lists-held n listed place next len end (putOffPresets nb presets r v s) h) at k)
 
-  pub presets-skip : (getD presets v 0 ≡ r → ⊥) → Held n listed place next len end (putOffPresets nb presets r (v + 1) s)
+  pub presets-skip : (getD presets v 0 ≡ r → ⊥) → ListsHeld n listed place next len end (putOffPresets nb presets r (v + 1) s)
   unfolding putOffPresets
   presets-skip e =
       let t = ne-eqb (colorOf presets v) r (λ q. e (color-read presets v 0 (omega arith) ∙ q)) in
       rw (add-one v, putOffPresets, t) h
 
-pub presets-done : (n : ℕ) (nb : ℕ → List ℕ) (presets : List ℕ) (v r : ℕ) (s : Lists) (listed place next : List ℕ) (len end : ℕ) → v ≤ n → n ≤ v → Held n listed place next len end (putOffPresets nb presets r v s)
-    → Held n listed place next len end (putOffPresets nb presets r n s)
-presets-done n nb presets v r s listed place next len end a b h = let e : v ≡ n = omega arith in subst (λ (w : ℕ). Held n listed place next len end (putOffPresets nb presets r w s)) e h
+pub presets-done : (n : ℕ) (nb : ℕ → List ℕ) (presets : List ℕ) (v r : ℕ) (s : Lists) (listed place next : List ℕ) (len end : ℕ) → v ≤ n → n ≤ v → ListsHeld n listed place next len end (putOffPresets nb presets r v s)
+    → ListsHeld n listed place next len end (putOffPresets nb presets r n s)
+presets-done n nb presets v r s listed place next len end a b h = let e : v ≡ n = omega arith in subst (λ (w : ℕ). ListsHeld n listed place next len end (putOffPresets nb presets r w s)) e h
 
 -- ---- the listed items
 
 -- In the middle of a round: the turns that are left lead to what the round leaves.
 pub record Turning (n : ℕ) (nb : ℕ → List ℕ) (r : ℕ) (listed place next : List ℕ) (len end : ℕ) (colors : List ℕ) (after : Round) : Type 0 where
-  pub held : Held n listed place next len end (listsAt listed next len end)
+  pub held : ListsHeld n listed place next len end (listsAt listed next len end)
   pub size : length colors ≡ n
   pub turns : ℕ
   pub enough : len ≤ turns
@@ -93,7 +93,7 @@ unfolding putOffAll
 put-off-length s [] = omega arith
 put-off-length s (k ∷ ks) = omega (arith, put-off-length (putOff s k) ks, put-off-one-length s k)
 
-pub turn-start : (n : ℕ) (nb : ℕ → List ℕ) (r : ℕ) (listed place next : List ℕ) (len end : ℕ) (colors : List ℕ) → Held n listed place next len end (listsAt listed next len end) → length colors ≡ n
+pub turn-start : (n : ℕ) (nb : ℕ → List ℕ) (r : ℕ) (listed place next : List ℕ) (len end : ℕ) (colors : List ℕ) → ListsHeld n listed place next len end (listsAt listed next len end) → length colors ≡ n
     → Turning n nb r listed place next len end colors (colorListed nb r len (listsAt listed next len end) colors)
 turn-start n nb r listed place next len end colors h e = record { held = h; size = e; turns = len; enough = omega arith; same = refl }
 
@@ -140,13 +140,13 @@ module _ (n : ℕ) (nb : ℕ → List ℕ) (r : ℕ) (listed place next : List �
     front-member = place-item n listed place len (take len listed) (turning .held .first) 0 more
 
     module _ (listed₁ place₁ : List ℕ) (p : listed₁ ≡ set listed (getD place (getD listed 0 0) 0) (getD listed (len - 1) 0)) (q : place₁ ≡ set place (getD listed (len - 1) 0) (getD place (getD listed 0 0) 0)) where
-      taken : Held n listed₁ place₁ next (len - 1) end (record { listed = takeOut (getD listed 0 0) (take len listed); next = take end next })
+      taken : ListsHeld n listed₁ place₁ next (len - 1) end (record { listed = takeOut (getD listed 0 0) (take len listed); next = take end next })
       taken = taken-out n listed place next len end (listsAt listed next len end) (turning .held) (getD listed 0 0) front-member listed₁ place₁ p q
 
-      pub front-taken : Held n listed₁ place₁ next (len - 1) end (listsAt listed₁ next (len - 1) end)
+      pub front-taken : ListsHeld n listed₁ place₁ next (len - 1) end (listsAt listed₁ next (len - 1) end)
       front-taken = held-at n listed₁ place₁ next (len - 1) end (record { listed = takeOut (getD listed 0 0) (take len listed); next = take end next }) taken
 
-      module _ (listed₂ place₂ next₂ : List ℕ) (len₂ end₂ : ℕ) (k : Held n listed₂ place₂ next₂ len₂ end₂ (putOffAll (listsAt listed₁ next (len - 1) end) (nb (getD listed 0 0)))) where
+      module _ (listed₂ place₂ next₂ : List ℕ) (len₂ end₂ : ℕ) (k : ListsHeld n listed₂ place₂ next₂ len₂ end₂ (putOffAll (listsAt listed₁ next (len - 1) end) (nb (getD listed 0 0)))) where
         -- The list falls.
         pub turn-less : len₂ < len
         turn-less = omega (
@@ -219,7 +219,7 @@ module _ (n : ℕ) (nb : ℕ → List ℕ) (presets listed place next : List ℕ
   unfolding rounds
   rounds-done h = let z : n - r ≡ 0 = omega arith in rw z at (rounding .same)
 
-  pub round-held : Held n listed place next len 0 (listsAt listed next len 0)
+  pub round-held : ListsHeld n listed place next len 0 (listsAt listed next len 0)
   round-held = record {
     first = rounding .list;
     second = record {
@@ -235,7 +235,7 @@ module _ (n : ℕ) (nb : ℕ → List ℕ) (presets listed place next : List ℕ
     total = omega (arith, rounding .list .room);
   }
 
-  pub round-more : r < n → (listed₁ place₁ next₁ : List ℕ) (len₁ end₁ : ℕ) → Held n listed₁ place₁ next₁ len₁ end₁ (putOffPresets nb presets r n (listsAt listed next len 0))
+  pub round-more : r < n → (listed₁ place₁ next₁ : List ℕ) (len₁ end₁ : ℕ) → ListsHeld n listed₁ place₁ next₁ len₁ end₁ (putOffPresets nb presets r n (listsAt listed next len 0))
       → (next₂ place₂ colors₂ : List ℕ) (len₂ : ℕ) → Rounded n next₂ place₂ len₂ colors₂ (colorListed nb r len₁ (listsAt listed₁ next₁ len₁ end₁) colors)
       → (before listed₂ : List ℕ) → length before ≡ length listed₁ → length listed₂ ≡ length before → listed₂ ≡ copiedOver (take len₂ next₂) before
       → Rounding n nb presets listed₂ place₂ next₂ len₂ (r + 1) colors₂ answer

@@ -18,7 +18,7 @@ unfoldable pub countOf : Items → List ℕ → ℕ
 countOf items ends = cond (items .edges) (edgeCount ends) (items .nodes)
 
 -- The items are those of a graph that passed the checks, and its table is made.
-pub record Tabled (items : Items) (ends starts entries : List ℕ) : Type 0 where
+pub record ItemsTabled (items : Items) (ends starts entries : List ℕ) : Type 0 where
   pub passed : Passed (items .nodes) ends
   pub table : Table ends (items .nodes) starts entries
   pub all : items .count ≡ countOf items ends

@@ -17,7 +17,7 @@ pub record Listing (n : ℕ) (listed place : List ℕ) (len : ℕ) (items : List
   pub held : take len listed ≡ items
 
 -- The listed items and those put off: two arrays that share the places.
-pub record Held (n : ℕ) (listed place next : List ℕ) (len end : ℕ) (s : Lists) : Type 0 where
+pub record ListsHeld (n : ℕ) (listed place next : List ℕ) (len end : ℕ) (s : Lists) : Type 0 where
   pub first : Listing n listed place len (s .listed)
   pub second : Listing n next place end (s .next)
   pub apart : (i j : ℕ) → i < len → j < end → getD listed i 0 ≢ getD next j 0

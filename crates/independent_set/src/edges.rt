@@ -6,8 +6,8 @@ ghost use mathlib.Core.List.{reverse};
 ghost use Prim.Native.Nat.{ℕ, _<_};
 ghost use Rattle.lists.specs.Member.{Mem};
 ghost use Rattle.greedy.specs.IndependentSet.{putOffAll};
-ghost use Rattle.independent_set.specs.Items.{neighborsOf, Tabled};
-ghost use Rattle.independent_set.specs.Listing.{Held, listsAt};
+ghost use Rattle.independent_set.specs.Items.{neighborsOf, ItemsTabled};
+ghost use Rattle.independent_set.specs.Listing.{ListsHeld, listsAt};
 use crate::items::Items;
 use crate::list::Counts;
 use crate::list::put_off;
@@ -27,9 +27,9 @@ fn put_off_part(
     counts: Counts,
 ) -> Counts
     requires { ⌜ ((j : ℕ) → Mem j (now edges) → j < count) ⌝ }
-    requires { ⌜ Held count (now listed) (now place) (now next) (counts .listed) (counts .next) (listsAt (now listed) (now next) (counts .listed) (counts .next)) ⌝ }
+    requires { ⌜ ListsHeld count (now listed) (now place) (now next) (counts .listed) (counts .next) (listsAt (now listed) (now next) (counts .listed) (counts .next)) ⌝ }
     ensures held { λ r. let listed₀ = now (listed .entry) in let next₀ = now (next .entry) in let edges = now (edges .entry) in
-        ⌜ Held count (now (listed .exit)) (now (place .exit)) (now (next .exit)) (r .listed) (r .next) (putOffAll (listsAt listed₀ next₀ (counts .listed) (counts .next)) (reverse edges)) ⌝ }
+        ⌜ ListsHeld count (now (listed .exit)) (now (place .exit)) (now (next .exit)) (r .listed) (r .next) (putOffAll (listsAt listed₀ next₀ (counts .listed) (counts .next)) (reverse edges)) ⌝ }
 {
     let mut reached = counts;
     let mut i = edges.len();
@@ -53,10 +53,10 @@ pub(crate) fn put_off_sharing(
     counts: Counts,
     edge: EdgeIndex,
 ) -> Counts
-    requires { ⌜ (items .edges ≡ true) × Tabled items (now ends) (now starts) (now entries) × (edge .0 < items .count) ⌝ }
-    requires { ⌜ Held (items .count) (now listed) (now place) (now next) (counts .listed) (counts .next) (listsAt (now listed) (now next) (counts .listed) (counts .next)) ⌝ }
+    requires { ⌜ (items .edges ≡ true) × ItemsTabled items (now ends) (now starts) (now entries) × (edge .0 < items .count) ⌝ }
+    requires { ⌜ ListsHeld (items .count) (now listed) (now place) (now next) (counts .listed) (counts .next) (listsAt (now listed) (now next) (counts .listed) (counts .next)) ⌝ }
     ensures held { λ r. let listed₀ = now (listed .entry) in let next₀ = now (next .entry) in let ends = now (ends .entry) in
-        ⌜ Held (items .count) (now (listed .exit)) (now (place .exit)) (now (next .exit)) (r .listed) (r .next)
+        ⌜ ListsHeld (items .count) (now (listed .exit)) (now (place .exit)) (now (next .exit)) (r .listed) (r .next)
         (putOffAll (listsAt listed₀ next₀ (counts .listed) (counts .next)) (neighborsOf items ends (edge .0))) ⌝ }
 {
     let mut reached = counts;

@@ -10,6 +10,7 @@ use crate::items::Items;
 use crate::list::list_uncolored;
 use graph::Checked;
 use graph::Coloring;
+use graph::Graph;
 use graph::copy_colors;
 use graph::days_of;
 use greedy::check_edges;
@@ -29,11 +30,11 @@ fn color_checked(items: Items, ends: &[u16], presets: &[u16], colors: &mut [u16]
     ensures colors { λ _. let ends = now (ends .entry) in let presets = now (presets .entry) in
         ⌜ now (colors .exit) ≡ independentSetColors (neighborsOf items ends) (items .count) presets ⌝ }
 {
-    let mut starts = [0u16; 513];
-    let mut entries = [0u16; 8192];
-    let mut listed = [0u16; 4096];
-    let mut place = [0u16; 4096];
-    let mut next = [0u16; 4096];
+    let mut starts = [0u16; Graph::STARTS];
+    let mut entries = [0u16; Graph::ENTRIES];
+    let mut listed = [0u16; Graph::MAX_EDGES];
+    let mut place = [0u16; Graph::MAX_EDGES];
+    let mut next = [0u16; Graph::MAX_EDGES];
     incidence_front(items.nodes, ends, &mut starts, &mut entries);
     copy_colors(presets, colors);
     let len = list_uncolored(presets, &mut listed, &mut place);

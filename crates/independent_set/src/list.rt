@@ -6,7 +6,7 @@ ghost use Prim.Native.Nat.{_-_, _≤_, _<_};
 ghost use lib.ListN.{length, getD, set};
 ghost use Rattle.greedy.specs.Turn.{uncolored};
 ghost use Rattle.greedy.specs.IndependentSet.{putOff};
-ghost use Rattle.independent_set.specs.Listing.{Listing, Held, listsAt};
+ghost use Rattle.independent_set.specs.Listing.{Listing, ListsHeld, listsAt};
 use graph::Color;
 use graph::NodeIndex;
 
@@ -58,10 +58,10 @@ pub(crate) fn put_off(
     counts: Counts,
     item: NodeIndex,
 ) -> Counts
-    requires { ⌜ Held count (now listed) (now place) (now next) (counts .listed) (counts .next) (listsAt (now listed) (now next) (counts .listed) (counts .next)) ⌝ }
+    requires { ⌜ ListsHeld count (now listed) (now place) (now next) (counts .listed) (counts .next) (listsAt (now listed) (now next) (counts .listed) (counts .next)) ⌝ }
     requires { ⌜ item .0 < count ⌝ }
     ensures held { λ r. let listed₀ = now (listed .entry) in let next₀ = now (next .entry) in
-        ⌜ Held count (now (listed .exit)) (now (place .exit)) (now (next .exit)) (r .listed) (r .next) (putOff (listsAt listed₀ next₀ (counts .listed) (counts .next)) (item .0)) ⌝ }
+        ⌜ ListsHeld count (now (listed .exit)) (now (place .exit)) (now (next .exit)) (r .listed) (r .next) (putOff (listsAt listed₀ next₀ (counts .listed) (counts .next)) (item .0)) ⌝ }
 {
     let len = counts.listed;
     let end = counts.next;

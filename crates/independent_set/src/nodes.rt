@@ -3,8 +3,8 @@ ghost use mathlib.Core.Bool.{false};
 ghost use mathlib.Core.Path.{_≡_};
 ghost use Prim.Native.Nat.{_<_};
 ghost use Rattle.greedy.specs.IndependentSet.{putOffAll};
-ghost use Rattle.independent_set.specs.Items.{neighborsOf, Tabled};
-ghost use Rattle.independent_set.specs.Listing.{Held, listsAt};
+ghost use Rattle.independent_set.specs.Items.{neighborsOf, ItemsTabled};
+ghost use Rattle.independent_set.specs.Listing.{ListsHeld, listsAt};
 use crate::items::Items;
 use crate::list::Counts;
 use crate::list::put_off;
@@ -25,10 +25,10 @@ pub(crate) fn put_off_far_ends(
     counts: Counts,
     node: NodeIndex,
 ) -> Counts
-    requires { ⌜ (items .edges ≡ false) × Tabled items (now ends) (now starts) (now entries) × (node .0 < items .count) ⌝ }
-    requires { ⌜ Held (items .count) (now listed) (now place) (now next) (counts .listed) (counts .next) (listsAt (now listed) (now next) (counts .listed) (counts .next)) ⌝ }
+    requires { ⌜ (items .edges ≡ false) × ItemsTabled items (now ends) (now starts) (now entries) × (node .0 < items .count) ⌝ }
+    requires { ⌜ ListsHeld (items .count) (now listed) (now place) (now next) (counts .listed) (counts .next) (listsAt (now listed) (now next) (counts .listed) (counts .next)) ⌝ }
     ensures held { λ r. let listed₀ = now (listed .entry) in let next₀ = now (next .entry) in let ends = now (ends .entry) in
-        ⌜ Held (items .count) (now (listed .exit)) (now (place .exit)) (now (next .exit)) (r .listed) (r .next)
+        ⌜ ListsHeld (items .count) (now (listed .exit)) (now (place .exit)) (now (next .exit)) (r .listed) (r .next)
         (putOffAll (listsAt listed₀ next₀ (counts .listed) (counts .next)) (neighborsOf items ends (node .0))) ⌝ }
 {
     let mut reached = counts;

@@ -3,8 +3,8 @@ ghost use mathlib.Core.Path.{_≡_};
 ghost use Prim.Native.Nat.{_<_};
 ghost use lib.ListN.{length, take};
 ghost use Rattle.greedy.specs.IndependentSet.{putOffAll, putOffPresets, colorListed, rounds};
-ghost use Rattle.independent_set.specs.Items.{neighborsOf, Tabled};
-ghost use Rattle.independent_set.specs.Listing.{Listing, Held, listsAt};
+ghost use Rattle.independent_set.specs.Items.{neighborsOf, ItemsTabled};
+ghost use Rattle.independent_set.specs.Listing.{Listing, ListsHeld, listsAt};
 ghost use Rattle.independent_set.specs.Rounds.{Rounded};
 use crate::edges::put_off_sharing;
 use crate::items::Items;
@@ -28,11 +28,11 @@ fn put_off_neighbors(
     counts: Counts,
     item: NodeIndex,
 ) -> Counts
-    requires { ⌜ Tabled items (now ends) (now starts) (now entries) ⌝ }
-    requires { ⌜ Held (items .count) (now listed) (now place) (now next) (counts .listed) (counts .next) (listsAt (now listed) (now next) (counts .listed) (counts .next)) ⌝ }
+    requires { ⌜ ItemsTabled items (now ends) (now starts) (now entries) ⌝ }
+    requires { ⌜ ListsHeld (items .count) (now listed) (now place) (now next) (counts .listed) (counts .next) (listsAt (now listed) (now next) (counts .listed) (counts .next)) ⌝ }
     requires { ⌜ item .0 < items .count ⌝ }
     ensures held { λ r. let listed₀ = now (listed .entry) in let next₀ = now (next .entry) in let ends = now (ends .entry) in
-        ⌜ Held (items .count) (now (listed .exit)) (now (place .exit)) (now (next .exit)) (r .listed) (r .next)
+        ⌜ ListsHeld (items .count) (now (listed .exit)) (now (place .exit)) (now (next .exit)) (r .listed) (r .next)
         (putOffAll (listsAt listed₀ next₀ (counts .listed) (counts .next)) (neighborsOf items ends (item .0))) ⌝ }
 {
     if items.edges {
@@ -75,12 +75,12 @@ fn put_off_presets(
     counts: Counts,
     color: Color,
 ) -> Counts
-    requires { ⌜ Tabled items (now ends) (now starts) (now entries) ⌝ }
-    requires { ⌜ Held (items .count) (now listed) (now place) (now next) (counts .listed) (counts .next) (listsAt (now listed) (now next) (counts .listed) (counts .next)) ⌝ }
+    requires { ⌜ ItemsTabled items (now ends) (now starts) (now entries) ⌝ }
+    requires { ⌜ ListsHeld (items .count) (now listed) (now place) (now next) (counts .listed) (counts .next) (listsAt (now listed) (now next) (counts .listed) (counts .next)) ⌝ }
     requires { ⌜ length (now presets) ≡ items .count ⌝ }
     ensures held { λ r. let ends = now (ends .entry) in let presets = now (presets .entry) in let listed₀ = now (listed .entry) in
         let next₀ = now (next .entry) in
-        ⌜ Held (items .count) (now (listed .exit)) (now (place .exit)) (now (next .exit)) (r .listed) (r .next)
+        ⌜ ListsHeld (items .count) (now (listed .exit)) (now (place .exit)) (now (next .exit)) (r .listed) (r .next)
         (putOffPresets (neighborsOf items ends) presets (color .0) (items .count) (listsAt listed₀ next₀ (counts .listed) (counts .next))) ⌝ }
 {
     let mut reached = counts;
@@ -119,8 +119,8 @@ fn color_listed(
     counts: Counts,
     color: Color,
 ) -> usize
-    requires { ⌜ Tabled items (now ends) (now starts) (now entries) ⌝ }
-    requires { ⌜ Held (items .count) (now listed) (now place) (now next) (counts .listed) (counts .next) (listsAt (now listed) (now next) (counts .listed) (counts .next)) ⌝ }
+    requires { ⌜ ItemsTabled items (now ends) (now starts) (now entries) ⌝ }
+    requires { ⌜ ListsHeld (items .count) (now listed) (now place) (now next) (counts .listed) (counts .next) (listsAt (now listed) (now next) (counts .listed) (counts .next)) ⌝ }
     requires { ⌜ length (now colors) ≡ items .count ⌝ }
     ensures rounded { λ r. let ends = now (ends .entry) in let listed = now (listed .entry) in let next₀ = now (next .entry) in
         let colors₀ = now (colors .entry) in
@@ -166,7 +166,7 @@ pub(crate) fn color_rounds(
     colors: &mut [u16],
     len: usize,
 )
-    requires { ⌜ Tabled items (now ends) (now starts) (now entries) ⌝ }
+    requires { ⌜ ItemsTabled items (now ends) (now starts) (now entries) ⌝ }
     requires { ⌜ Listing (items .count) (now listed) (now place) len (take len (now listed)) ⌝ }
     requires { ⌜ (length (now presets) ≡ items .count) × (length (now next) ≡ 4096) × (length (now colors) ≡ items .count) ⌝ }
     ensures colors { λ _. let ends = now (ends .entry) in let presets = now (presets .entry) in let listed = now (listed .entry) in

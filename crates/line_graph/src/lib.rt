@@ -5,6 +5,7 @@ ghost use Rattle.line_graph.specs.LineReport.{reportOfLineList};
 ghost use Rattle.line_list.specs.LineList.{lineGraph};
 use graph::Checked;
 use graph::EdgeIndex;
+use graph::Graph;
 use graph::NodeIndex;
 use graph::Refusal;
 use graph::check_graph;
@@ -39,8 +40,8 @@ fn list_pairs(n: usize, ends: &[u16], list: &mut [u16]) -> LineList
     ensures report { λ r. let ends = now (ends .entry) in let list = now (list .entry) in ⌜ reportOfLineList r ≡ lineGraph n ends list .report ⌝ }
     ensures list { λ _. let ends = now (ends .entry) in let list₀ = now (list .entry) in ⌜ now (list .exit) ≡ lineGraph n ends list₀ .list ⌝ }
 {
-    let mut starts = [0u16; 513];
-    let mut entries = [0u16; 8192];
+    let mut starts = [0u16; Graph::STARTS];
+    let mut entries = [0u16; Graph::ENTRIES];
     incidence_front(n, ends, &mut starts, &mut entries);
     let total = pairs::list_length(n, &starts, &entries);
     if list.len() < total {

@@ -7,6 +7,7 @@ ghost use Rattle.vizing.specs.MisraGries.{misraGries};
 ghost use Rattle.matchday_text.specs.Text.{outcomeText, coloredText, fileText};
 use graph::Color;
 use graph::Coloring;
+use graph::Graph;
 use graph_file::FileAnswer;
 use graph_file::read_graph_file;
 use lines::put_days;
@@ -34,10 +35,10 @@ fn lent_places(ends: usize) -> usize
     ensures answer { λ r. ⌜ r ≡ min (ends / 2) 4096 ⌝ }
 {
     let edges = ends / 2;
-    if edges < 4096 {
+    if edges < Graph::MAX_EDGES {
         return edges;
     }
-    4096
+    Graph::MAX_EDGES
 }
 
 // The text of a graph: as much of it as there is room for, and its whole length.
@@ -46,7 +47,7 @@ fn graph_text(n: usize, ends: &[u16], text: &mut [u8]) -> usize
     ensures text { λ _. let ends = now (ends .entry) in let text₀ = now (text .entry) in
         ⌜ now (text .exit) ≡ copiedOver (coloredText n ends) text₀ ⌝ }
 {
-    let mut colors = [Color::NONE; 4096];
+    let mut colors = [Color::NONE; Graph::MAX_EDGES];
     let m = lent_places(ends.len());
     outcome_text(n, ends, &mut colors[..m], text)
 }
@@ -57,7 +58,7 @@ pub fn matchday_text(bytes: &[u8], text: &mut [u8]) -> usize
     ensures text { λ _. let bytes = now (bytes .entry) in let text₀ = now (text .entry) in
         ⌜ now (text .exit) ≡ copiedOver (fileText bytes) text₀ ⌝ }
 {
-    let mut ends = [0u16; 8192];
+    let mut ends = [0u16; Graph::ENTRIES];
     match read_graph_file(bytes, &mut ends) {
         FileAnswer::Refused(refusal) => put_refused(text, refusal.number() as usize),
         FileAnswer::Accepted {

@@ -2,6 +2,7 @@
 use crate::put::put_bytes;
 use crate::put::put_number;
 use edge_walk::end_at;
+use graph::Color;
 use graph::EdgeIndex;
 use graph::NodeIndex;
 ghost use mathlib.Core.Path.{_≡_};
@@ -19,7 +20,7 @@ fn color_at(colors: &[u16], edge: EdgeIndex) -> usize
     if k < colors.len() {
         colors[k] as usize
     } else {
-        65535
+        Color::NONE
     }
 }
 

@@ -30,7 +30,7 @@ use Rattle.graph.specs.declared.EdgeIndex.{EdgeIndex}
 use Rattle.fan.specs.declared.candidates.Joining.{Joining}
 use Rattle.fan.specs.declared.candidates.Joining.the-variants.{Edge, Nothing}
 use Rattle.fan.specs.Candidates.{optionOf, mayJoin, joinsMarked}
-use Rattle.fan.proofs.CandidateLaws.{Passed}
+use Rattle.fan.proofs.CandidateLaws.{NoneJoins}
 use Rattle.misra_gries.specs.Step.{FanReady}
 
 -- ---- an edge takes the mark
@@ -56,8 +56,8 @@ module _ (M : List ℕ) (s e : ℕ) (h : e < length M) where
   marks-more fan marks = mark-cases (λ j y. eqb y s ≡ elem j (e ∷ fan)) (rw (eq-eqb s s refl, eq-eqb e e refl)) (λ j n. rw (ne-eqb j e n) (marks j))
 
   -- The edge may no longer join, and for the others nothing changes.
-  passed-mark : (l near : List ℕ) (lo : ℕ) → Passed l M s near lo → Passed l (set M e s) s near lo
-  unfolding Passed mayJoin
+  passed-mark : (l near : List ℕ) (lo : ℕ) → NoneJoins l M s near lo → NoneJoins l (set M e s) s near lo
+  unfolding NoneJoins mayJoin
   passed-mark l near lo passed k =
       mark-cases (λ j y. Mem j (take lo near) → not (eqb y s) && isColored l j ≡ false) (λ p. rw (eq-eqb s s refl)) (λ j n. passed j) k
 
@@ -75,8 +75,8 @@ module _ (l T M : List ℕ) (s x : ℕ) (ks fan : List ℕ) (marks : Marks M s f
   first-marked near = first-that-same (joinsMarked l T M s x) (joins l ks fan) near (λ k p. joins-marked k)
 
   -- Also where it starts at lo.
-  first-from : (near : List ℕ) (lo : ℕ) → Passed l M s near lo → firstThat (joinsMarked l T M s x) (drop lo near) ≡ firstJoining l ks fan near
-  unfolding Passed joinsMarked
+  first-from : (near : List ℕ) (lo : ℕ) → NoneJoins l M s near lo → firstThat (joinsMarked l T M s x) (drop lo near) ≡ firstJoining l ks fan near
+  unfolding NoneJoins joinsMarked
   first-from near lo passed =
       sym (first-behind (joinsMarked l T M s x) (take lo near) (drop lo near) (λ k p. rw (passed k p)))
       ∙ ap (firstThat (joinsMarked l T M s x)) (take-append-drop lo near)
@@ -145,14 +145,14 @@ module _ (ends : List ℕ) (m : ℕ) (l T M₀ : List ℕ) (s : ℕ) (near : Lis
       pub growing-low : (j : ℕ) → getD M′ j 0 ≤ s
       growing-low = rw marked (mark-cases M s e e-inside (λ j y. y ≤ s) (omega arith) (λ j n. G .low j))
 
-      pub growing-passed : (lo : ℕ) → Passed l M s near lo → Passed l M′ s near lo
+      pub growing-passed : (lo : ℕ) → NoneJoins l M s near lo → NoneJoins l M′ s near lo
       growing-passed lo passed = rw marked (passed-mark M s e e-inside l near lo passed)
 
       marks-e : Marks M′ s (e ∷ G .fan)
       marks-e = rw marked (marks-more M s e e-inside (G .fan) (G .marks))
 
       -- It is written, and at its far end x the search answers r.
-      module _ (room : len < length out) (x : ℕ) (far : x ≡ farEnd ends e u) (lo : ℕ) (passed : Passed l M′ s near lo) (r : Joining)
+      module _ (room : len < length out) (x : ℕ) (far : x ≡ farEnd ends e u) (lo : ℕ) (passed : NoneJoins l M′ s near lo) (r : Joining)
           (answer : optionOf r ≡ firstThat (joinsMarked l T M′ s x) (drop lo near)) where
         found : firstJoining l (edgesAt ends m (farEnd ends e u)) (e ∷ G .fan) (edgesAt ends m u) ≡ optionOf r
         found = rw (← R .candidates, ← far) (sym (answer ∙ first-from l T M′ s x (edgesAt ends m x) (e ∷ G .fan) marks-e (R .says-free x) near lo passed))

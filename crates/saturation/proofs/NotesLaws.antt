@@ -16,7 +16,7 @@ use Rattle.items.specs.declared.Kind.{Kind}
 use Rattle.items.specs.Items.{acrossOf, firstNode, secondNode, neighborsOf, Tabled}
 use Rattle.color_marks.specs.Marks.{acrossAll, along, around}
 use Rattle.color_marks.proofs.MarksLaws.{across-more, around-one, around-two}
-use Rattle.saturation.specs.Counts.{NotedTimes, Noted, Room}
+use Rattle.saturation.specs.Counts.{NotedTimes, Noted, NotesRoom}
 use Rattle.lists.specs.Member.{Mem}
 use Rattle.graph.specs.Edges.{edgeCount, firstEnd, secondEnd, edgesAt, neighbors}
 use Rattle.graph.proofs.EdgeLaws.{edge-at}
@@ -91,11 +91,11 @@ module _ (colors s w m : List ℕ) (u : ℕ) where
 
 -- ---- one edge after the other
 
-pub room-first : (colors us ws s w m : List ℕ) → Room colors (us ++ ws) s w m → Room colors us s w m
+pub room-first : (colors us ws s w m : List ℕ) → NotesRoom colors (us ++ ws) s w m → NotesRoom colors us s w m
 room-first colors us ws s w m room = record { at = λ u h e. let r = room .at u h e in (omega (arith, r .0, count-append u us ws), r .1) }
 
 -- What is left of the room after the first of them.
-pub room-left : (colors us ws s₀ w₀ m₀ s w m : List ℕ) → Room colors (us ++ ws) s₀ w₀ m₀ → Noted colors us s₀ w₀ m₀ s w m → Room colors ws s w m
+pub room-left : (colors us ws s₀ w₀ m₀ s w m : List ℕ) → NotesRoom colors (us ++ ws) s₀ w₀ m₀ → Noted colors us s₀ w₀ m₀ s w m → NotesRoom colors ws s w m
 room-left colors us ws s₀ w₀ m₀ s w m room noted = record {
   at = λ u h e.
       let r = room .at u h e in
@@ -122,11 +122,11 @@ module _ (kind : Kind) (ends colors edges : List ℕ) (v : ℕ) (s₀ w₀ m₀ 
   across-cut h = ap (map (λ (k : ℕ). acrossOf kind ends k v)) (sym (take-append-drop i edges) ∙ ap (λ (l : List ℕ). take i edges ++ l) (drop-cons edges i 0 h)) ∙ map-append (λ (k : ℕ). acrossOf kind ends k v) (take i edges) (getD edges i 0 ∷ drop (suc i) edges)
 
   -- The next item has room.
-  pub notes-room : Room colors (acrossAll kind ends v edges) s₀ w₀ m₀ → Noted colors passed s₀ w₀ m₀ s w m → i < length edges
+  pub notes-room : NotesRoom colors (acrossAll kind ends v edges) s₀ w₀ m₀ → Noted colors passed s₀ w₀ m₀ s w m → i < length edges
       → (u : ℕ) → u ≡ acrossOf kind ends (getD edges i 0) v → u < length colors → getD colors u 0 ≡ noColor → (0 < getD w u 0) × (getD m u 0 ≡ 0 → getD s u 0 < 65535)
   notes-room room noted h u p b z =
       let us = acrossAll kind ends v (drop (suc i) edges) in
-      let left : Room colors (u ∷ us) s w m = rw p (room-left colors passed (acrossOf kind ends (getD edges i 0) v ∷ us) s₀ w₀ m₀ s w m (rw (across-cut h) at room) noted) in
+      let left : NotesRoom colors (u ∷ us) s w m = rw p (room-left colors passed (acrossOf kind ends (getD edges i 0) v ∷ us) s₀ w₀ m₀ s w m (rw (across-cut h) at room) noted) in
       let r = left .at u b (sym (color-read colors u 0 b) ∙ z) in
       (omega (arith, r .0, count-here u us), r .1)
 
@@ -155,7 +155,7 @@ module _ (kind : Kind) (ends starts entries : List ℕ) where
     second-across e = stretch-inside (rw e (second-inside kind n ends items (tabled .sized) v inside))
 
   module _ (colors : List ℕ) (v a b : ℕ) (p : a ≡ firstNode kind ends v) (q : b ≡ secondNode kind ends v) (edges : List ℕ) (x : edges ≡ stretch starts entries a) where
-    pub around-first : (s w m : List ℕ) → Room colors (around kind ends starts entries v) s w m → Room colors (acrossAll kind ends a edges) s w m
+    pub around-first : (s w m : List ℕ) → NotesRoom colors (around kind ends starts entries v) s w m → NotesRoom colors (acrossAll kind ends a edges) s w m
     unfolding along
     around-first s w m room = rw x (elim (dec-eq a b) [
       | inl e ↦ rw (around-one kind ends starts entries v a b p q e) at room
@@ -167,7 +167,7 @@ module _ (kind : Kind) (ends starts entries : List ℕ) where
     one-noted s₀ w₀ m₀ s w m e noted = rw (around-one kind ends starts entries v a b p q e, ← x) noted
 
     module _ (n : a ≡ b → ⊥) (others : List ℕ) (y : others ≡ stretch starts entries b) (s₀ w₀ m₀ s w m : List ℕ) (noted : Noted colors (acrossAll kind ends a edges) s₀ w₀ m₀ s w m) where
-      pub around-second : Room colors (around kind ends starts entries v) s₀ w₀ m₀ → Room colors (acrossAll kind ends b others) s w m
+      pub around-second : NotesRoom colors (around kind ends starts entries v) s₀ w₀ m₀ → NotesRoom colors (acrossAll kind ends b others) s w m
       unfolding along
       around-second room = rw y (room-left colors (along kind ends starts entries a) (along kind ends starts entries b) s₀ w₀ m₀ s w m (rw (around-two kind ends starts entries v a b p q n) at room) (rw x at noted))
 

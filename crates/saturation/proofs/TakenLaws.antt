@@ -18,7 +18,7 @@ use Rattle.greedy.specs.Saturation.{saturation, uncoloredNeighbors, uncoloredAm
 use Rattle.items.specs.declared.Kind.{Kind}
 use Rattle.items.specs.Items.{neighborsOf, Tabled}
 use Rattle.items.proofs.ItemsLaws.{neighborhood, items-few}
-use Rattle.saturation.specs.Counts.{Counted, Cleared, Noted, Room, Ready, Started, Preset}
+use Rattle.saturation.specs.Counts.{BothCounted, Cleared, Noted, NotesRoom, CountsReady, Started, Preset}
 use Rattle.saturation.proofs.CountsLaws.{colorsAmong, count-mem, mem-count, different-few, uncolored-falls, different-stays, different-grows, Known, known}
 use Rattle.saturation.proofs.NotesLaws.{none-noted, around-times}
 use Rattle.color_marks.specs.Marks.{around, stored, markOf}
@@ -44,7 +44,7 @@ uncolored-none colors (x ∷ us) z u (inr p) e = by-test (isColored colors x)
     (λ t. let w = rw t at z in omega arith)
 
 -- The items us, with v perhaps more or less often, are the neighbours of v.
-module _ (nb : ℕ → List ℕ) (n : ℕ) (hood : Neighborhood nb n) (colors s₀ w₀ us : List ℕ) (v c : ℕ) (size : length colors ≡ n) (counted : Counted nb n colors s₀ w₀)
+module _ (nb : ℕ → List ℕ) (n : ℕ) (hood : Neighborhood nb n) (colors s₀ w₀ us : List ℕ) (v c : ℕ) (size : length colors ≡ n) (counted : BothCounted nb n colors s₀ w₀)
     (inside : v < n) (bare : colorOf colors v ≡ noColor) (real : c ≢ noColor) (around : (u : ℕ) → u ≢ v → count u us ≡ count u (nb v)) where
   within : v < length colors
   within = omega arith
@@ -61,7 +61,7 @@ module _ (nb : ℕ → List ℕ) (n : ℕ) (hood : Neighborhood nb n) (colors s�
   fewer : (u : ℕ) → u < n → u ≢ v → uncoloredAmong (set colors v c) (nb u) + count u us ≡ uncoloredAmong colors (nb u)
   fewer u h d = ap (λ (x : ℕ). uncoloredAmong (set colors v c) (nb u) + x) (times u h d) ∙ uncolored-falls colors v c within bare real (nb u)
 
-  taken-room : (m₀ : List ℕ) → Room (set colors v c) us s₀ w₀ m₀
+  taken-room : (m₀ : List ℕ) → NotesRoom (set colors v c) us s₀ w₀ m₀
   taken-room m₀ = record {
     at = λ u h e.
         let b : u < n = omega (arith, length-set colors v c) in
@@ -83,7 +83,7 @@ module _ (nb : ℕ → List ℕ) (n : ℕ) (hood : Neighborhood nb n) (colors s�
       }
 
   module _ (m₀ s w m : List ℕ) (known : Known us nb colors c m₀) (noted : Noted (set colors v c) us s₀ w₀ m₀ s w m) where
-    taken-counted : Counted nb n (set colors v c) s w
+    taken-counted : BothCounted nb n (set colors v c) s w
     taken-counted = record {
       waits = λ u b e.
           let o = still-bare u e in
@@ -105,7 +105,7 @@ module _ (nb : ℕ → List ℕ) (n : ℕ) (hood : Neighborhood nb n) (colors s�
     }
 
 -- The counts of v, which has its colour, are cleared: the others' are still right,
-clear-counted : (nb : ℕ → List ℕ) (n : ℕ) (colors s w : List ℕ) (v : ℕ) → Counted nb n colors s w → colorOf colors v ≢ noColor → Counted nb n colors (set s v 0) (set w v 0)
+clear-counted : (nb : ℕ → List ℕ) (n : ℕ) (colors s w : List ℕ) (v : ℕ) → BothCounted nb n colors s w → colorOf colors v ≢ noColor → BothCounted nb n colors (set s v 0) (set w v 0)
 clear-counted nb n colors s w v counted colored =
     let other : (u : ℕ) → colorOf colors u ≡ noColor → u ≢ v = λ u e p. colored (ap (colorOf colors) (sym p) ∙ e) in
     record {
@@ -131,7 +131,7 @@ none-taken colors v c h e p = let q : getD colors v 0 ≡ c = color-read colors 
 
 -- ---- the state between two turns
 
-module _ (kind : Kind) (n : ℕ) (ends starts entries colors s₀ w₀ : List ℕ) (v c : ℕ) (ready : Ready kind n ends starts entries colors s₀ w₀) (inside : v < length colors) (bare : colorOf colors v ≡ noColor)
+module _ (kind : Kind) (n : ℕ) (ends starts entries colors s₀ w₀ : List ℕ) (v c : ℕ) (ready : CountsReady kind n ends starts entries colors s₀ w₀) (inside : v < length colors) (bare : colorOf colors v ≡ noColor)
     (real : c ≡ noColor → ⊥) where
   abbrev hood : Neighborhood (neighborsOf kind n ends) (length colors)
   hood = neighborhood kind n ends (length colors) (ready .tabled .sized)
@@ -146,7 +146,7 @@ module _ (kind : Kind) (n : ℕ) (ends starts entries colors s₀ w₀ : List �
   pub take-inside : v < length (set colors v c)
   take-inside = rw (length-set colors v c) inside
 
-  pub take-room : (m₀ : List ℕ) → Room (set colors v c) us s₀ w₀ m₀
+  pub take-room : (m₀ : List ℕ) → NotesRoom (set colors v c) us s₀ w₀ m₀
   take-room = taken-room (neighborsOf kind n ends) (length colors) hood colors s₀ w₀ us v c refl (ready .counted) inside bare real (λ u d. around-times kind n ends starts entries (length colors) (ready .tabled) v u inside d)
 
   pub take-sizes : (m : List ℕ) → length colors ≤ length m → (length (set colors v c) ≤ length s₀) × (length (set colors v c) ≤ length w₀) × (length (set colors v c) ≤ length m)
@@ -154,7 +154,7 @@ module _ (kind : Kind) (n : ℕ) (ends starts entries colors s₀ w₀ : List �
 
   -- The counts afterwards, those of v cleared.
   pub take-ready : (m₀ s w m : List ℕ) → Known us (neighborsOf kind n ends) colors c m₀ → Noted (set colors v c) us s₀ w₀ m₀ s w m
-      → length s ≡ length s₀ → length w ≡ length w₀ → Ready kind n ends starts entries (set colors v c) (set s v 0) (set w v 0)
+      → length s ≡ length s₀ → length w ≡ length w₀ → CountsReady kind n ends starts entries (set colors v c) (set s v 0) (set w v 0)
   take-ready m₀ s w m known noted ls lw =
       let counts = taken-counted (neighborsOf kind n ends) (length colors) hood colors s₀ w₀ us v c refl (ready .counted) inside bare real (λ u d. around-times kind n ends starts entries (length colors) (ready .tabled) v u inside d) m₀ s w m known noted in
       record {
@@ -166,12 +166,12 @@ module _ (kind : Kind) (n : ℕ) (ends starts entries colors s₀ w₀ : List �
       }
 
   -- The same where v waits for no neighbour: only its own counts are cleared.
-  pub take-idle : getD w₀ v 0 ≡ 0 → Ready kind n ends starts entries (set colors v c) (set s₀ v 0) w₀
+  pub take-idle : getD w₀ v 0 ≡ 0 → CountsReady kind n ends starts entries (set colors v c) (set s₀ v 0) w₀
   take-idle z =
       let m = stored (markOf kind ends starts entries colors c) us (replicate 4096 0) in
       let noted = idle-noted (neighborsOf kind n ends) (length colors) hood colors s₀ w₀ us v c refl (ready .counted) inside bare real (λ u d. around-times kind n ends starts entries (length colors) (ready .tabled) v u inside d) z m in
       let marks = known kind n ends starts entries colors c (ready .tabled) real us (replicate 4096 0) m (omega (arith, length-replicate {A = ℕ} 4096 0)) refl in
-      subst (Ready kind n ends starts entries (set colors v c) (set s₀ v 0)) (ap (set w₀ v) (sym z) ∙ set-getD w₀ v 0) (take-ready m s₀ w₀ m marks noted refl refl)
+      subst (CountsReady kind n ends starts entries (set colors v c) (set s₀ v 0)) (ap (set w₀ v) (sym z) ∙ set-getD w₀ v 0) (take-ready m s₀ w₀ m marks noted refl refl)
 
 -- ---- Laws of what specs/Start defines.
 
@@ -207,7 +207,7 @@ all-uncolored colors (u ∷ us) bare = rw (uncolored-false colors u (bare u)) (a
 started-bare : (nb : ℕ → List ℕ) (n : ℕ) (colors waiting : List ℕ) → length colors ≡ n → Started nb n colors waiting → (u : ℕ) → colorOf colors u ≡ noColor
 started-bare nb n colors waiting size p u = elim (decLt u n) [ yes h ↦ p .bare u h | no h ↦ color-outside colors u (omega arith) ]
 
-started-counted : (nb : ℕ → List ℕ) (n : ℕ) (colors saturations waiting : List ℕ) → length colors ≡ n → Started nb n colors waiting → ((v : ℕ) → getD saturations v 0 ≡ 0) → Counted nb n colors saturations waiting
+started-counted : (nb : ℕ → List ℕ) (n : ℕ) (colors saturations waiting : List ℕ) → length colors ≡ n → Started nb n colors waiting → ((v : ℕ) → getD saturations v 0 ≡ 0) → BothCounted nb n colors saturations waiting
 unfolding colorsAmong
 started-counted nb n colors saturations waiting size p zeros =
     let bare = started-bare nb n colors waiting size p in
@@ -221,7 +221,7 @@ zero-at n v = elim (decLt v n) [ yes h ↦ getD-replicate n v 0 0 h | no h ↦ L
 
 -- The counts are ready for the presets.
 pub started-ready : (kind : Kind) (n : ℕ) (ends starts entries : List ℕ) (items : ℕ) (colors saturations waiting : List ℕ) → Tabled kind n ends starts entries items
-    → length colors ≡ items → saturations ≡ replicate 4096 0 → length waiting ≡ 4096 → Started (neighborsOf kind n ends) items colors waiting → Ready kind n ends starts entries colors saturations waiting
+    → length colors ≡ items → saturations ≡ replicate 4096 0 → length waiting ≡ 4096 → Started (neighborsOf kind n ends) items colors waiting → CountsReady kind n ends starts entries colors saturations waiting
 started-ready kind n ends starts entries items colors saturations waiting tabled size zeros room started =
     let few = items-few kind n ends items (tabled .sized) in
     record {

@@ -25,7 +25,7 @@ use Rattle.choice.proofs.ChoiceLaws.{Best, some-best, none-bare}
 use Rattle.items.specs.declared.Kind.{Kind}
 use Rattle.items.specs.Items.{neighborsOf}
 use Rattle.items.proofs.ItemsLaws.{items-few}
-use Rattle.saturation.specs.Counts.{Counted, Ready, turnOf}
+use Rattle.saturation.specs.Counts.{BothCounted, CountsReady, turnOf}
 
 -- ---- What the counts choose is what the definition chooses.
 
@@ -91,7 +91,7 @@ none-uncolored colors (suc k) all = last-colored colors k (all k (omega arith)) 
 
 -- ---- by the counts
 
-module _ (nb : ℕ → List ℕ) (colors saturations waiting : List ℕ) (counted : Counted nb (length colors) colors saturations waiting) where
+module _ (nb : ℕ → List ℕ) (colors saturations waiting : List ℕ) (counted : BothCounted nb (length colors) colors saturations waiting) where
   -- `greater`, of items that have their counts.
   module _ (u v : ℕ) (hu : u < length colors) (bu : colorOf colors u ≡ noColor) (hv : v < length colors) (bv : colorOf colors v ≡ noColor) where
     more-greater : getD saturations v 0 < getD saturations u 0 → greater nb colors u v ≡ true
@@ -119,7 +119,7 @@ module _ (nb : ℕ → List ℕ) (colors saturations waiting : List ℕ) (counte
       ]
 
 -- The choice between two turns.
-module _ (kind : Kind) (n : ℕ) (ends starts entries colors saturations waiting : List ℕ) (ready : Ready kind n ends starts entries colors saturations waiting)
+module _ (kind : Kind) (n : ℕ) (ends starts entries colors saturations waiting : List ℕ) (ready : CountsReady kind n ends starts entries colors saturations waiting)
     (choice : Choice) (said : optionOf choice ≡ choiceOf colors saturations waiting) where
   few : length colors ≤ 4096
   few = items-few kind n ends (length colors) (ready .tabled .sized)

@@ -15,7 +15,7 @@ use Rattle.greedy.specs.Turn.{uncolored, colorItem}
 -- ---- The two counts of the items without a colour.
 
 -- Each item without a colour has its two counts: the different colours on its neighbours, and the neighbours that still wait for one.
-pub record Counted (nb : ℕ → List ℕ) (n : ℕ) (colors saturations waiting : List ℕ) : Type 0 where
+pub record BothCounted (nb : ℕ → List ℕ) (n : ℕ) (colors saturations waiting : List ℕ) : Type 0 where
   pub differs : (v : ℕ) → v < n → colorOf colors v ≡ noColor → getD saturations v 0 ≡ saturation nb colors v
   pub waits : (v : ℕ) → v < n → colorOf colors v ≡ noColor → getD waiting v 0 ≡ uncoloredNeighbors nb colors v
 
@@ -41,7 +41,7 @@ pub record Noted (colors us saturations₀ waiting₀ marks₀ saturations waiti
 -- ---- one edge after the other
 
 -- Each item without a colour has room to note the colour as often as it stands among these.
-pub record Room (colors us saturations waiting marks : List ℕ) : Type 0 where
+pub record NotesRoom (colors us saturations waiting marks : List ℕ) : Type 0 where
   pub at : (u : ℕ) → u < length colors → colorOf colors u ≡ noColor → (count u us ≤ getD waiting u 0) × (getD marks u 0 ≡ 0 → getD saturations u 0 < 65535)
 
 -- ---- The counts before any item has a colour, and the presets that are set one after the other.
@@ -63,9 +63,9 @@ pub record Preset (presets : List ℕ) (v : ℕ) (colors : List ℕ) : Type 0 wh
 -- ---- the state between two turns
 
 -- A graph that passed the checks, with its table, and the counts of its items.
-pub record Ready (kind : Kind) (n : ℕ) (ends starts entries colors saturations waiting : List ℕ) : Type 0 where
+pub record CountsReady (kind : Kind) (n : ℕ) (ends starts entries colors saturations waiting : List ℕ) : Type 0 where
   pub tabled : Tabled kind n ends starts entries (length colors)
-  pub counted : Counted (neighborsOf kind n ends) (length colors) colors saturations waiting
+  pub counted : BothCounted (neighborsOf kind n ends) (length colors) colors saturations waiting
   pub cleared : Cleared colors saturations waiting
   pub saturations-room : length colors ≤ length saturations
   pub waiting-room : length colors ≤ length waiting

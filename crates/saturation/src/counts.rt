@@ -9,11 +9,12 @@ ghost use Rattle.graph.specs.Color.{noColor};
 ghost use Rattle.graph.specs.Colored.{colorOf};
 ghost use Rattle.items.specs.Items.{acrossOf, neighborsOf, Tabled};
 ghost use Rattle.color_marks.specs.Marks.{acrossAll, around};
-ghost use Rattle.saturation.specs.Counts.{Noted, Room, Ready, Started};
+ghost use Rattle.saturation.specs.Counts.{Noted, NotesRoom, CountsReady, Started};
 use color_marks::mark_used;
 use edge_walk::edges_at;
 use graph::Color;
 use graph::EdgeIndex;
+use graph::Graph;
 use graph::NodeIndex;
 use items::Kind;
 use items::across;
@@ -82,7 +83,7 @@ fn note_all(
     node: NodeIndex,
 )
     requires { ⌜ ((i : ℕ) → i < length (now edges) → acrossOf kind (now ends) (getD (now edges) i 0) (node .0) < length (now colors)) ⌝ }
-    requires { ⌜ Room (now colors) (acrossAll kind (now ends) (node .0) (now edges)) (now saturations) (now waiting) (now marks) ⌝ }
+    requires { ⌜ NotesRoom (now colors) (acrossAll kind (now ends) (node .0) (now edges)) (now saturations) (now waiting) (now marks) ⌝ }
     requires { ⌜ (length (now colors) ≤ length (now saturations)) × (length (now colors) ≤ length (now waiting)) × (length (now colors) ≤ length (now marks)) ⌝ }
     ensures noted { λ _. let colors = now (colors .entry) in let ends = now (ends .entry) in let edges = now (edges .entry) in
         let saturations₀ = now (saturations .entry) in let waiting₀ = now (waiting .entry) in let marks₀ = now (marks .entry) in
@@ -111,7 +112,7 @@ fn note_neighbors(
 )
     requires { ⌜ Tabled kind n (now ends) (now starts) (now entries) (length (now colors)) ⌝ }
     requires { ⌜ item .0 < length (now colors) ⌝ }
-    requires { ⌜ Room (now colors) (around kind (now ends) (now starts) (now entries) (item .0)) (now saturations) (now waiting) (now marks) ⌝ }
+    requires { ⌜ NotesRoom (now colors) (around kind (now ends) (now starts) (now entries) (item .0)) (now saturations) (now waiting) (now marks) ⌝ }
     requires { ⌜ (length (now colors) ≤ length (now saturations)) × (length (now colors) ≤ length (now waiting)) × (length (now colors) ≤ length (now marks)) ⌝ }
     ensures noted { λ _. let colors = now (colors .entry) in let ends = now (ends .entry) in let starts = now (starts .entry) in
         let entries = now (entries .entry) in let saturations₀ = now (saturations .entry) in let waiting₀ = now (waiting .entry) in
@@ -160,14 +161,14 @@ fn note_color(
     item: NodeIndex,
     color: Color,
 )
-    requires { ⌜ Ready kind n (now ends) (now starts) (now entries) (now colors) (now saturations) (now waiting) ⌝ }
+    requires { ⌜ CountsReady kind n (now ends) (now starts) (now entries) (now colors) (now saturations) (now waiting) ⌝ }
     requires { ⌜ (item .0 < length (now colors)) × (colorOf (now colors) (item .0) ≡ noColor) ⌝ }
     requires { ⌜ (color .0 ≡ noColor → ⊥) ⌝ }
     ensures colors { λ _. ⌜ now (colors .exit) ≡ set (now (colors .entry)) (item .0) (color .0) ⌝ }
     ensures ready { λ _. let ends = now (ends .entry) in let starts = now (starts .entry) in let entries = now (entries .entry) in
-        ⌜ Ready kind n ends starts entries (now (colors .exit)) (now (saturations .exit)) (now (waiting .exit)) ⌝ }
+        ⌜ CountsReady kind n ends starts entries (now (colors .exit)) (now (saturations .exit)) (now (waiting .exit)) ⌝ }
 {
-    let mut marks = [0u8; 4096];
+    let mut marks = [0u8; Graph::MAX_EDGES];
     mark_used(kind, ends, starts, entries, colors, color, &mut marks, item);
     let v = item.0 as usize;
     colors[v] = color.0;
@@ -200,11 +201,11 @@ pub(crate) fn take_color(
     item: NodeIndex,
     color: Color,
 )
-    requires { ⌜ Ready kind n (now ends) (now starts) (now entries) (now colors) (now saturations) (now waiting) ⌝ }
+    requires { ⌜ CountsReady kind n (now ends) (now starts) (now entries) (now colors) (now saturations) (now waiting) ⌝ }
     requires { ⌜ (item .0 < length (now colors)) × (colorOf (now colors) (item .0) ≡ noColor) ⌝ }
     ensures colors { λ _. ⌜ now (colors .exit) ≡ set (now (colors .entry)) (item .0) (color .0) ⌝ }
     ensures ready { λ _. let ends = now (ends .entry) in let starts = now (starts .entry) in let entries = now (entries .entry) in
-        ⌜ Ready kind n ends starts entries (now (colors .exit)) (now (saturations .exit)) (now (waiting .exit)) ⌝ }
+        ⌜ CountsReady kind n ends starts entries (now (colors .exit)) (now (saturations .exit)) (now (waiting .exit)) ⌝ }
 {
     if color.0 == Color::NONE {
         return;

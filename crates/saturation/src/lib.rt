@@ -8,6 +8,7 @@ ghost use Rattle.greedy.specs.Saturation.{saturationColors};
 ghost use Rattle.items.specs.Items.{itemsOf, neighborsOf, greedyOf};
 use graph::Checked;
 use graph::Coloring;
+use graph::Graph;
 use graph::days_of;
 use incidence::incidence_front;
 use items::Kind;
@@ -25,11 +26,11 @@ fn color_checked(kind: Kind, n: usize, ends: &[u16], presets: &[u16], colors: &m
     ensures colors { λ _. let ends = now (ends .entry) in let presets = now (presets .entry) in
         ⌜ now (colors .exit) ≡ saturationColors (neighborsOf kind n ends) (itemsOf kind n ends) presets ⌝ }
 {
-    let mut starts = [0u16; 513];
-    let mut entries = [0u16; 8192];
+    let mut starts = [0u16; Graph::STARTS];
+    let mut entries = [0u16; Graph::ENTRIES];
     incidence_front(n, ends, &mut starts, &mut entries);
-    let mut saturations = [0u16; 4096];
-    let mut waiting = [0u16; 4096];
+    let mut saturations = [0u16; Graph::MAX_EDGES];
+    let mut waiting = [0u16; Graph::MAX_EDGES];
     run(
         kind,
         n,

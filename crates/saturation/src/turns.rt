@@ -3,7 +3,7 @@ ghost use mathlib.Core.Path.{_≡_};
 ghost use lib.ListN.{length, replicate};
 ghost use Rattle.greedy.specs.Saturation.{saturationColors};
 ghost use Rattle.items.specs.Items.{neighborsOf, Tabled};
-ghost use Rattle.saturation.specs.Counts.{Ready, Preset, turnOf};
+ghost use Rattle.saturation.specs.Counts.{CountsReady, Preset, turnOf};
 use crate::counts::start;
 use crate::counts::take_color;
 use choice::Choice;
@@ -24,11 +24,11 @@ fn turn(
     saturations: &mut [u16],
     waiting: &mut [u16],
 )
-    requires { ⌜ Ready kind n (now ends) (now starts) (now entries) (now colors) (now saturations) (now waiting) ⌝ }
+    requires { ⌜ CountsReady kind n (now ends) (now starts) (now entries) (now colors) (now saturations) (now waiting) ⌝ }
     ensures colors { λ _. let ends = now (ends .entry) in let colors₀ = now (colors .entry) in
         ⌜ now (colors .exit) ≡ turnOf (neighborsOf kind n ends) (length colors₀) colors₀ ⌝ }
     ensures ready { λ _. let ends = now (ends .entry) in let starts = now (starts .entry) in let entries = now (entries .entry) in
-        ⌜ Ready kind n ends starts entries (now (colors .exit)) (now (saturations .exit)) (now (waiting .exit)) ⌝ }
+        ⌜ CountsReady kind n ends starts entries (now (colors .exit)) (now (saturations .exit)) (now (waiting .exit)) ⌝ }
 {
     match choose(colors, saturations, waiting) {
         Choice::Nothing => {}
@@ -61,7 +61,7 @@ fn take_turns(
     saturations: &mut [u16],
     waiting: &mut [u16],
 )
-    requires { ⌜ Ready kind n (now ends) (now starts) (now entries) (now colors) (now saturations) (now waiting) ⌝ }
+    requires { ⌜ CountsReady kind n (now ends) (now starts) (now entries) (now colors) (now saturations) (now waiting) ⌝ }
     ensures colors { λ _. let ends = now (ends .entry) in let colors₀ = now (colors .entry) in
         ⌜ now (colors .exit) ≡ saturationColors (neighborsOf kind n ends) (length colors₀) colors₀ ⌝ }
 {
@@ -84,11 +84,11 @@ fn set_presets(
     saturations: &mut [u16],
     waiting: &mut [u16],
 )
-    requires { ⌜ Ready kind n (now ends) (now starts) (now entries) (now colors) (now saturations) (now waiting) ⌝ }
+    requires { ⌜ CountsReady kind n (now ends) (now starts) (now entries) (now colors) (now saturations) (now waiting) ⌝ }
     requires { ⌜ (length (now colors) ≡ length (now presets)) × Preset (now presets) 0 (now colors) ⌝ }
     ensures colors { λ _. ⌜ now (colors .exit) ≡ now (presets .entry) ⌝ }
     ensures ready { λ _. let ends = now (ends .entry) in let starts = now (starts .entry) in let entries = now (entries .entry) in
-        ⌜ Ready kind n ends starts entries (now (colors .exit)) (now (saturations .exit)) (now (waiting .exit)) ⌝ }
+        ⌜ CountsReady kind n ends starts entries (now (colors .exit)) (now (saturations .exit)) (now (waiting .exit)) ⌝ }
 {
     let mut v = 0;
     while v < presets.len() {

@@ -16,6 +16,7 @@ use edge_walk::end_at;
 use edge_walk::far_end;
 use graph::Color;
 use graph::EdgeIndex;
+use graph::Graph;
 use graph::NodeIndex;
 
 // Marks a colour, if there is a place for it.
@@ -95,7 +96,7 @@ pub fn smallest_color(
         let entries = now (entries .entry) in
         ⌜ r .0 ≡ smallestFrom 512 (farColors ends colors (node .0) (stretch starts entries (node .0))) 0 ⌝ }
 {
-    let mut marks = [0u8; 512];
+    let mut marks = [0u8; Graph::MAX_NODES];
     mark_far_colors(ends, starts, entries, colors, node, &mut marks);
     Color(first_unmarked(&marks) as u16)
 }
@@ -126,7 +127,7 @@ pub fn smallest_edge_color(
         ⌜ r .0 ≡ smallestFrom 4096 (colorsOf colors (stretch starts entries (firstEnd ends (edge .0)))
         ++ colorsOf colors (stretch starts entries (secondEnd ends (edge .0)))) 0 ⌝ }
 {
-    let mut marks = [0u8; 4096];
+    let mut marks = [0u8; Graph::MAX_EDGES];
     let place = 2 * edge.0 as usize;
     let first = edges_at(starts, entries, end_at(ends, place));
     mark_colors(first, colors, &mut marks);

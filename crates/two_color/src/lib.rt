@@ -7,6 +7,7 @@ ghost use Rattle.graph.specs.Check.{Passed};
 ghost use Rattle.two_color.specs.TwoColor.{twoColor, sidesOutcome, Bipartition};
 use graph::Checked;
 use graph::Coloring;
+use graph::Graph;
 use graph::Refusal;
 use graph::check_graph;
 use graph::days_of;
@@ -34,9 +35,9 @@ fn color_checked(n: usize, ends: &[u16], colors: &mut [u8]) -> Coloring
     ensures colors { λ _. let ends = now (ends .entry) in let colors₀ = now (colors .entry) in
         ⌜ now (colors .exit) ≡ sidesOutcome n ends colors₀ .colors ⌝ }
 {
-    let mut up = [0u16; 512];
-    let mut flips = [false; 512];
-    let mut sides = [0u16; 512];
+    let mut up = [0u16; Graph::MAX_NODES];
+    let mut flips = [false; Graph::MAX_NODES];
+    let mut sides = [0u16; Graph::MAX_NODES];
     if components::color_nodes(n, ends, &mut up, &mut flips, &mut sides) {
         copy_out(&sides[..n], colors);
         let days = days_of(&sides[..n]);

@@ -7,7 +7,7 @@ use lib.ListN.{length, drop}
 use borrow.Author.Needs.{needs}
 use Rattle.lists.proofs.MemberLaws.{mem-getD}
 use Rattle.greedy.specs.IndependentSet.{putOffAll}
-use Rattle.independent_set.specs.Listing.{Held, listsAt}
+use Rattle.independent_set.specs.Listing.{ListsHeld, listsAt}
 use Rattle.independent_set.proofs.ListingLaws.{held-at}
 use Rattle.independent_set.proofs.NeighborsLaws.{part-start, part-done, part-more}
 use Rattle.independent_set.proofs.edges.put_off_part.Statement.{statement}
@@ -15,7 +15,7 @@ use Rattle.independent_set.proofs.edges.put_off_part.Tie as tie
 
 abbrev Inv-loop : tie.InvT-loop
 Inv-loop count edges listed₀ place₀ next₀ reached₀ i₀ listed place next reached i =
-    (i ≤ length edges) × Held count listed place next (reached .listed) (reached .next) (putOffAll (listsAt listed₀ next₀ (reached₀ .listed) (reached₀ .next)) (reverse (drop i edges)))
+    (i ≤ length edges) × ListsHeld count listed place next (reached .listed) (reached .next) (putOffAll (listsAt listed₀ next₀ (reached₀ .listed) (reached₀ .next)) (reverse (drop i edges)))
 
 abbrev μ-loop : tie.MeasureT-loop
 μ-loop count edges listed₀ place₀ next₀ reached₀ i₀ listed place next reached i = i

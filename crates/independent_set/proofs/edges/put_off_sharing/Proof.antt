@@ -5,7 +5,7 @@ use native.Mathlib.Omega.{arith}
 use borrow.Author.Needs.{needs}
 use Rattle.graph.specs.Stretch.{stretch}
 use Rattle.greedy.specs.IndependentSet.{putOffAll}
-use Rattle.independent_set.specs.Listing.{Held, listsAt}
+use Rattle.independent_set.specs.Listing.{ListsHeld, listsAt}
 use Rattle.independent_set.proofs.ListingLaws.{held-at}
 use Rattle.independent_set.proofs.NeighborsLaws.{partsTo, part-below, parts-all, parts-done, parts-more, parts-none}
 use Rattle.independent_set.proofs.edges.put_off_sharing.Statement.{statement}
@@ -13,7 +13,7 @@ use Rattle.independent_set.proofs.edges.put_off_sharing.Tie as tie
 
 abbrev Inv-loop : tie.InvT-loop
 Inv-loop items ends starts entries listed₀ place₀ next₀ edge reached₀ turn₀ listed place next reached turn =
-    (turn ≤ 4) × Held (items .count) listed place next (reached .listed) (reached .next) (putOffAll (listsAt listed₀ next₀ (reached₀ .listed) (reached₀ .next)) (partsTo (stretch starts entries) ends (edge .0) turn))
+    (turn ≤ 4) × ListsHeld (items .count) listed place next (reached .listed) (reached .next) (putOffAll (listsAt listed₀ next₀ (reached₀ .listed) (reached₀ .next)) (partsTo (stretch starts entries) ends (edge .0) turn))
 
 abbrev μ-loop : tie.MeasureT-loop
 μ-loop items ends starts entries listed₀ place₀ next₀ edge reached₀ turn₀ listed place next reached turn = 4 - turn

@@ -6,7 +6,7 @@ use lib.ListN.{length, take}
 use borrow.Author.Needs.{needs}
 use Rattle.graph.specs.Edges.{farEnd}
 use Rattle.greedy.specs.IndependentSet.{putOffAll}
-use Rattle.independent_set.specs.Listing.{Held, listsAt}
+use Rattle.independent_set.specs.Listing.{ListsHeld, listsAt}
 use Rattle.independent_set.proofs.ListingLaws.{held-at}
 use Rattle.independent_set.proofs.NeighborsLaws.{neighbor-below, neighbors-done, neighbors-more, neighbors-none}
 use Rattle.independent_set.proofs.nodes.put_off_far_ends.Statement.{statement}
@@ -14,7 +14,7 @@ use Rattle.independent_set.proofs.nodes.put_off_far_ends.Tie as tie
 
 abbrev Inv-loop : tie.InvT-loop
 Inv-loop items ends starts entries listed₀ place₀ next₀ node reached₀ edges i₀ listed place next reached i =
-    Held (items .count) listed place next (reached .listed) (reached .next) (putOffAll (listsAt listed₀ next₀ (reached₀ .listed) (reached₀ .next)) (map (λ (j : ℕ). farEnd ends j (node .0)) (take i edges)))
+    ListsHeld (items .count) listed place next (reached .listed) (reached .next) (putOffAll (listsAt listed₀ next₀ (reached₀ .listed) (reached₀ .next)) (map (λ (j : ℕ). farEnd ends j (node .0)) (take i edges)))
 
 abbrev μ-loop : tie.MeasureT-loop
 μ-loop items ends starts entries listed₀ place₀ next₀ node reached₀ edges i₀ listed place next reached i = length edges - i

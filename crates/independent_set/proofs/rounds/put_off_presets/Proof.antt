@@ -5,14 +5,14 @@ use native.Mathlib.Omega.{arith}
 use borrow.Author.Needs.{needs}
 use Rattle.greedy.specs.IndependentSet.{putOffPresets}
 use Rattle.independent_set.specs.Items.{neighborsOf}
-use Rattle.independent_set.specs.Listing.{Held, listsAt}
+use Rattle.independent_set.specs.Listing.{ListsHeld, listsAt}
 use Rattle.independent_set.proofs.ListingLaws.{held-at}
 use Rattle.independent_set.proofs.RoundsLaws.{presets-done, presets-more, presets-none, presets-skip}
 use Rattle.independent_set.proofs.rounds.put_off_presets.Statement.{statement}
 use Rattle.independent_set.proofs.rounds.put_off_presets.Tie as tie
 
 abbrev Inv-loop : tie.InvT-loop
-Inv-loop items ends starts entries presets listed₀ place₀ next₀ color reached₀ v₀ listed place next reached v = (v ≤ items .count) × Held (items .count) listed place next (reached .listed) (reached .next) (putOffPresets (neighborsOf items ends) presets (color .0) v (listsAt listed₀ next₀ (reached₀ .listed) (reached₀ .next)))
+Inv-loop items ends starts entries presets listed₀ place₀ next₀ color reached₀ v₀ listed place next reached v = (v ≤ items .count) × ListsHeld (items .count) listed place next (reached .listed) (reached .next) (putOffPresets (neighborsOf items ends) presets (color .0) v (listsAt listed₀ next₀ (reached₀ .listed) (reached₀ .next)))
 
 abbrev μ-loop : tie.MeasureT-loop
 μ-loop items ends starts entries presets listed₀ place₀ next₀ color reached₀ v₀ listed place next reached v = items .count - v

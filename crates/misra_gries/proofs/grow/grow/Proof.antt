@@ -7,7 +7,7 @@ use native.Mathlib.Omega.{arith}
 use lib.ListN.{length}
 use borrow.Author.Needs.{needs}
 use Rattle.graph.specs.Edges.{edgeCount}
-use Rattle.fan.proofs.CandidateLaws.{Passed, passed-none, passed-skipped}
+use Rattle.fan.proofs.CandidateLaws.{NoneJoins, passed-none, passed-skipped}
 use Rattle.misra_gries.proofs.MarkedFanLaws.{Growing, growing-start, growing-few, growing-low, growing-passed, growing-stop, growing-more}
 use Rattle.misra_gries.proofs.grow.grow.Statement.{statement}
 use Rattle.misra_gries.proofs.grow.grow.Tie as tie
@@ -15,7 +15,7 @@ use Rattle.misra_gries.proofs.grow.grow.Tie as tie
 abbrev Inv-loop : tie.InvT-loop
 Inv-loop ends work table marks₀ stamp near node out₀ next₀ len₀ lo₀ marks out next len lo =
     (length out ≡ length out₀) × (length marks ≡ length marks₀)
-    × Growing ends (edgeCount ends) work stamp (next₀ .0) (node .0) out marks len (next .0) × Passed work marks stamp near lo
+    × Growing ends (edgeCount ends) work stamp (next₀ .0) (node .0) out marks len (next .0) × NoneJoins work marks stamp near lo
 
 abbrev μ-loop : tie.MeasureT-loop
 μ-loop ends work table marks₀ stamp near node out₀ next₀ len₀ lo₀ marks out next len lo = length out₀ - len

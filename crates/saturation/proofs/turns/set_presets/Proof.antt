@@ -6,13 +6,13 @@ use native.Mathlib.Omega.{arith}
 use lib.ListN.{length}
 use borrow.Author.Needs.{needs}
 use Rattle.items.proofs.ItemsLaws.{items-few}
-use Rattle.saturation.specs.Counts.{Preset, Ready}
+use Rattle.saturation.specs.Counts.{Preset, CountsReady}
 use Rattle.saturation.proofs.TakenLaws.{preset-more, preset-all}
 use Rattle.saturation.proofs.turns.set_presets.Statement.{statement}
 use Rattle.saturation.proofs.turns.set_presets.Tie as tie
 
 abbrev Inv-loop : tie.InvT-loop
-Inv-loop kind n ends starts entries presets colors₀ saturations₀ waiting₀ v₀ colors saturations waiting v = (v ≤ length presets) × (length colors ≡ length colors₀) × (length saturations ≡ length saturations₀) × (length waiting ≡ length waiting₀) × Ready kind n ends starts entries colors saturations waiting × Preset presets v colors
+Inv-loop kind n ends starts entries presets colors₀ saturations₀ waiting₀ v₀ colors saturations waiting v = (v ≤ length presets) × (length colors ≡ length colors₀) × (length saturations ≡ length saturations₀) × (length waiting ≡ length waiting₀) × CountsReady kind n ends starts entries colors saturations waiting × Preset presets v colors
 
 abbrev μ-loop : tie.MeasureT-loop
 μ-loop kind n ends starts entries presets colors₀ saturations₀ waiting₀ v₀ colors saturations waiting v = length presets - v

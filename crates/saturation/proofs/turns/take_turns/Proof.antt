@@ -7,13 +7,13 @@ use lib.ListN.{length}
 use borrow.Author.Needs.{needs}
 use Rattle.greedy.specs.Saturation.{saturationFrom, saturationColors}
 use Rattle.items.specs.Items.{neighborsOf}
-use Rattle.saturation.specs.Counts.{Ready}
+use Rattle.saturation.specs.Counts.{CountsReady}
 use Rattle.saturation.proofs.TurnsLaws.{turn-size, turns-none, turns-more, turns-all}
 use Rattle.saturation.proofs.turns.take_turns.Statement.{statement}
 use Rattle.saturation.proofs.turns.take_turns.Tie as tie
 
 abbrev Inv-loop : tie.InvT-loop
-Inv-loop kind n ends starts entries colors₀ saturations₀ waiting₀ turns₀ colors saturations waiting turns = (turns ≤ length colors₀) × (length colors ≡ length colors₀) × (length saturations ≡ length saturations₀) × (length waiting ≡ length waiting₀) × Ready kind n ends starts entries colors saturations waiting × (saturationFrom (neighborsOf kind n ends) (length colors₀) (length colors₀ - turns) colors ≡ saturationColors (neighborsOf kind n ends) (length colors₀) colors₀)
+Inv-loop kind n ends starts entries colors₀ saturations₀ waiting₀ turns₀ colors saturations waiting turns = (turns ≤ length colors₀) × (length colors ≡ length colors₀) × (length saturations ≡ length saturations₀) × (length waiting ≡ length waiting₀) × CountsReady kind n ends starts entries colors saturations waiting × (saturationFrom (neighborsOf kind n ends) (length colors₀) (length colors₀ - turns) colors ≡ saturationColors (neighborsOf kind n ends) (length colors₀) colors₀)
 
 abbrev μ-loop : tie.MeasureT-loop
 μ-loop kind n ends starts entries colors₀ saturations₀ waiting₀ turns₀ colors saturations waiting turns = length colors₀ - turns
