@@ -1,15 +1,17 @@
 -- Laws of the call: one for each answer, and demand 3.
-use Prim.Native.Nat.{ℕ}
-use mathlib.Core.Path.{_≡_, sym, ap, _∙_}
+use Prim.Native.Nat.{ℕ, _≤_, _<_}
+use mathlib.Core.Path.{_≡_, refl, sym, ap, _∙_}
+use mathlib.Core.Logic.{_⊎_, inl, inr}
 use mathlib.Core.List.{List, _∷_}
 use mathlib.Core.Bool.{true, false, not}
-use mathlib.Core.Option.{some}
+use mathlib.Core.Option.{none, some}
+use native.Mathlib.Omega.{arith}
 use lib.ListN.{length, take}
-use lib.Dec.{eqb}
-use borrow.Author.Tests.{eq-eqb, ne-eqb}
+use lib.Dec.{eqb, ltb}
+use borrow.Author.Tests.{eq-eqb, ne-eqb, ltb-true}
 use Rattle.graph.specs.Report.{Report, accepted, refused, number, reportOfChecked}
-use Rattle.graph.specs.Check.{firstRefusal, graphChecks, lengthCheck, checkGraph, Passed}
-use Rattle.graph.proofs.CheckLaws.{passed, refused-first, passed-first, first-refuses, first-passes, answered-refused, answered-accepted, written-refused, written-accepted, graph-refused, graph-accepted}
+use Rattle.graph.specs.Check.{firstRefusal, graphChecks, lengthCheck, numbersPass, Passed}
+use Rattle.graph.proofs.CheckLaws.{passed, refused-first, passed-first, refusal-passes, first-refuses, first-passes, answered-refused, answered-accepted, written-refused, written-accepted}
 use Rattle.graph.specs.Edges.{edgeCount}
 use Rattle.graph.specs.Color.{colored, daysOf}
 use Rattle.graph.specs.declared.Refusal.{Refusal}
@@ -26,6 +28,15 @@ use Rattle.simple_graph.proofs.SimpleLaws.{simple-refused, simple-accepted}
 
 -- ---- the whole call
 
+-- The graph checks refuse by 1 to 4, the others by 6 and 7.
+early : (n : ℕ) (ends : List ℕ) → numbersPass (λ k. ltb k 5) (graphChecks n ends) ≡ true
+unfolding numbersPass graphChecks
+early n ends = refl
+
+late : (ends : List ℕ) → numbersPass (ltb 5) (simpleChecks ends) ≡ true
+unfolding numbersPass
+late ends = refl
+
 module _ (n : ℕ) (ends lent : List ℕ) where
   -- Report and slice are those of the definition.
   abbrev pub Meets : Report ℕ → List ℕ → Type 0
@@ -35,46 +46,71 @@ module _ (n : ℕ) (ends lent : List ℕ) where
   unfolding misraGries colored
   refuses k e = (answered-refused _ k _ e, written-refused _ k _ _ e)
 
-  pub graph-no : (c : Checked) (r : Refusal) → reportOfChecked c ≡ checkGraph n ends → c ≡ C.Refused r → Meets (refused (number r)) lent
+  graph-no : (k : ℕ) → firstRefusal (graphChecks n ends) ≡ some k → Meets (refused k) lent
   unfolding misraGriesChecks
-  graph-no c r e p = refuses (number r) (refused-first (graphChecks n ends) _ (number r) (graph-refused n ends c r e p))
+  graph-no k e = refuses k (refused-first (graphChecks n ends) _ k e)
 
-  module _ (c : Checked) (g : Graph) (e : reportOfChecked c ≡ checkGraph n ends) (p : c ≡ C.Accepted g) where
-    pub graph-yes : Passed n ends
-    graph-yes = passed n ends (graph-accepted n ends c g e p .0)
-
+  module _ (p : firstRefusal (graphChecks n ends) ≡ none) where
     after-graph : firstRefusal (misraGriesChecks n ends lent) ≡ firstRefusal (lengthCheck (length lent) (edgeCount ends) ∷ simpleChecks ends)
     unfolding misraGriesChecks
-    after-graph = passed-first (graphChecks n ends) (lengthCheck (length lent) (edgeCount ends) ∷ simpleChecks ends) (graph-accepted n ends c g e p .0)
+    after-graph = passed-first (graphChecks n ends) (lengthCheck (length lent) (edgeCount ends) ∷ simpleChecks ends) p
 
-    pub length-no : (length lent ≡ g .edges → ⊥) → Meets (refused 5) lent
+    length-no : (length lent ≡ edgeCount ends → ⊥) → Meets (refused 5) lent
     length-no h =
-        let q = graph-accepted n ends c g e p .2 in
-        let t : not (eqb (length lent) (edgeCount ends)) ≡ true = simp (ne-eqb (length lent) (edgeCount ends) (λ l. h (l ∙ sym q))) in
+        let t : not (eqb (length lent) (edgeCount ends)) ≡ true = simp (ne-eqb (length lent) (edgeCount ends) h) in
         refuses 5 (after-graph ∙ first-refuses (not (eqb (length lent) (edgeCount ends))) 5 _ t)
 
-    module _ (size : length lent ≡ g .edges) where
-      pub length-yes : length lent ≡ edgeCount ends
-      length-yes = size ∙ graph-accepted n ends c g e p .2
+    after-length : length lent ≡ edgeCount ends → firstRefusal (misraGriesChecks n ends lent) ≡ firstRefusal (simpleChecks ends)
+    after-length size =
+        let t : not (eqb (length lent) (edgeCount ends)) ≡ false = simp (eq-eqb (length lent) (edgeCount ends) size) in
+        after-graph ∙ first-passes (not (eqb (length lent) (edgeCount ends))) 5 _ t
 
-      after-length : firstRefusal (misraGriesChecks n ends lent) ≡ firstRefusal (simpleChecks ends)
-      after-length =
-          let t : not (eqb (length lent) (edgeCount ends)) ≡ false = simp (eq-eqb (length lent) (edgeCount ends) length-yes) in
-          after-graph ∙ first-passes (not (eqb (length lent) (edgeCount ends))) 5 _ t
+  -- By the answer of `check_simple`, lent slices that have room for every table.
+  module _ (starts entries : List ℕ) (s : Checked) (f : reportOfChecked s ≡ checkSimple n ends starts entries) (rows : length starts ≡ 513) (room : length entries ≡ 8192) where
+    module _ (r : Refusal) (h : s ≡ C.Refused r) where
+      cases : (firstRefusal (graphChecks n ends) ≡ some (number r)) ⊎ ((firstRefusal (graphChecks n ends) ≡ none) × (firstRefusal (simpleChecks ends) ≡ some (number r)))
+      cases = simple-refused n ends starts entries s f (omega arith) (omega arith) r h
 
-      module _ (s : Checked) (f : reportOfChecked s ≡ checkSimple n ends) where
-        pub simple-no : (r : Refusal) → s ≡ C.Refused r → Meets (refused (number r)) lent
-        simple-no r h = refuses (number r) (after-length ∙ simple-refused n ends s f r (graph-accepted n ends c g e p .0) h)
+      pub refused-early : number r < 6 → Meets (refused (number r)) lent
+      refused-early l = elim cases [
+        | inl e ↦ graph-no (number r) e
+        | inr (p, e) ↦ let z : ⊥ = omega (arith, ltb-true 5 (number r) (refusal-passes (ltb 5) (simpleChecks ends) (number r) (late ends) e)) in absurd z
+      ]
 
-        module _ (i : Graph) (h : s ≡ C.Accepted i) where
-          pub simple-yes : Admitted n ends
-          simple-yes = simple-admitted n ends graph-yes (simple-accepted n ends s f i h)
+      pub refused-sized : length lent ≡ edgeCount ends → Meets (refused (number r)) lent
+      refused-sized size = elim cases [
+        | inl e ↦ graph-no (number r) e
+        | inr (p, e) ↦ refuses (number r) (after-length p size ∙ e)
+      ]
 
-          pub colored-yes : (days : ℕ) (colors : List ℕ) → days ≡ daysOf (take (edgeCount ends) (held n ends (edgeCount ends))) → colors ≡ take (edgeCount ends) (held n ends (edgeCount ends)) → Meets (accepted days) colors
-          unfolding misraGries colored
-          colored-yes days colors a d =
-              let o = after-length ∙ simple-accepted n ends s f i h in
-              (ap accepted a ∙ answered-accepted _ _ o, d ∙ written-accepted _ _ _ o)
+      pub refused-late : 6 ≤ number r → (length lent ≡ edgeCount ends → ⊥) → Meets (refused 5) lent
+      refused-late l size = elim cases [
+        | inl e ↦ let z : ⊥ = omega (arith, ltb-true (number r) 5 (refusal-passes (λ k. ltb k 5) (graphChecks n ends) (number r) (early n ends) e)) in absurd z
+        | inr (p, e) ↦ length-no p size
+      ]
+
+    module _ (g : Graph) (h : s ≡ C.Accepted g) where
+      told : (firstRefusal (graphChecks n ends) ≡ none) × (firstRefusal (simpleChecks ends) ≡ none) × (g .edges ≡ edgeCount ends)
+      told = simple-accepted n ends starts entries s f (omega arith) (omega arith) g h
+
+      pub length-wrong : (length lent ≡ g .edges → ⊥) → Meets (refused 5) lent
+      length-wrong size = length-no (told .0) (λ l. size (l ∙ sym (told .2)))
+
+      pub graph-yes : Passed n ends
+      graph-yes = passed n ends (told .0)
+
+      pub simple-yes : Admitted n ends
+      simple-yes = simple-admitted n ends graph-yes (told .1)
+
+      module _ (size : length lent ≡ g .edges) where
+        pub length-yes : length lent ≡ edgeCount ends
+        length-yes = size ∙ told .2
+
+        pub colored-yes : (days : ℕ) (colors : List ℕ) → days ≡ daysOf (take (edgeCount ends) (held n ends (edgeCount ends))) → colors ≡ take (edgeCount ends) (held n ends (edgeCount ends)) → Meets (accepted days) colors
+        unfolding misraGries colored
+        colored-yes days colors a d =
+            let o = after-length (told .0) length-yes ∙ told .1 in
+            (ap accepted a ∙ answered-accepted _ _ o, d ∙ written-accepted _ _ _ o)
 
   -- ---- demand 3
 

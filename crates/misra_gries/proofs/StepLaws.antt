@@ -7,7 +7,7 @@ use Rattle.vizing.specs.Demand3.{Admitted, maxDegree}
 use Rattle.vizing.proofs.Theorem.{degree-max, max-degree-bound, max-degree-attained}
 use Rattle.vizing.proofs.StepLaws.{Palette, degree-palette, exchange-none, FoundLaws, found-laws, step-keeps}
 use Rattle.vizing.proofs.SimpleLaws.{degree-below}
-use Rattle.misra_gries.specs.Step.{InRange, Ready, Exchanging, Turning, Turned, topColor, FanReady}
+use Rattle.misra_gries.specs.Step.{InRange, Ready, Exchanging, Exchanged, Rotating, Rotated, Turning, Turned, topColor, FanReady}
 use mathlib.Core.Path.{_≡_, refl, sym, ap, _∙_}
 use mathlib.Core.Bool.{Bool, true}
 use native.Mathlib.Nat.{min-le-left}
@@ -17,14 +17,15 @@ use borrow.Author.Tests.{eq-eqb, ne-eqb}
 use Rattle.graph.specs.Stretch.{stretch}
 use Rattle.graph.proofs.EdgeLaws.{far-first}
 use Rattle.graph.specs.Colored.{smallestFreeAt}
-use Rattle.vizing.specs.MisraGries.{lastOf, fanOf, path, exchange, store, find, step}
+use Rattle.vizing.specs.MisraGries.{lastOf, fanOf, path, exchange, find, step}
 use Rattle.vizing.proofs.StepForm.{lastFarEnd, rotatePlaces, StepParts, stepParts, fan-form, last-form, find-form, step-form}
 use Rattle.vizing.specs.Step.{Invariant}
 use Rattle.edge_table.specs.EdgeTable.{isEmpty, smallestEmpty, exchangedColors, rotatedColors}
-use Rattle.repaint.specs.Repaint.{state, repainted, TableOf, Repaintable}
+use Rattle.repaint.specs.Repaint.{state, repainted, Repaintable}
 use Rattle.repaint.proofs.RepaintLaws.{says-smallest, says-free, repaint-done, exchange-done, step-exchange, step-rotation}
 use Rattle.recolor.specs.Front.{putFront}
-use Rattle.recolor.proofs.NewColorsLaws.{exchanged-front}
+use Rattle.recolor.specs.NewColors.{shiftedColors}
+use Rattle.recolor.proofs.NewColorsLaws.{exchanged-front, shifted-front}
 use Rattle.recolor.specs.TablePath.{tablePath}
 use Rattle.recolor.proofs.TablePathLaws.{path-none, path-ended, table-path}
 use Rattle.fan.specs.TablePlaces.{tablePlaces}
@@ -88,38 +89,46 @@ module _ (ends l T : List ℕ) (n u c d : ℕ) (E : Exchanging ends n l T u c d)
   right-path = table-path ends (edgeCount ends) l T (λ v. Unit {0}) (λ k v h. tt) n u d c tt (λ v a. E .tabled .says v d (E .d-color)) (λ v a. E .tabled .says v c (E .c-color))
 
   -- d is free at u: the path is empty, and nothing is exchanged.
-  pub path-empty : (b : Bool) → b ≡ isEmpty T u d → b ≡ true
-      → (0 ≡ length (path ends (edgeCount ends) n l u d c)) × ((l ≡ exchange l c d (path ends (edgeCount ends) n l u d c)) × TableOf ends (edgeCount ends) l T)
+  pub path-empty : (b : Bool) → b ≡ isEmpty T u d → b ≡ true → Exchanged n ends l u c d 0 l T
   path-empty b e t =
       let p : path ends (edgeCount ends) n l u d c ≡ [] = sym right-path ∙ path-none ends T n u d c (sym e ∙ t) in
-      (sym (ap length p), (sym (ap (exchange l c d) p ∙ exchange-none l c d), E .tabled))
+      record { count-is = sym (ap length p); list = sym (ap (exchange l c d) p ∙ exchange-none l c d); tabled = E .tabled }
 
-  pub path-exchanged : (es out₀ out l′ T′ : List ℕ) (len : ℕ) → es ≡ tablePath ends T n u d c → len ≡ length es → len ≤ length out₀ → out ≡ putFront (exchangedColors l c d es) out₀ → state l′ T′ ≡ repainted ends (state l T) es (take len out)
-      → (len ≡ length (path ends (edgeCount ends) n l u d c)) × ((l′ ≡ exchange l c d (path ends (edgeCount ends) n l u d c)) × TableOf ends (edgeCount ends) l′ T′)
+  pub path-exchanged : (es out₀ out l′ T′ : List ℕ) (len : ℕ) → es ≡ tablePath ends T n u d c → len ≡ length es → len ≤ length out₀ → out ≡ putFront (exchangedColors l c d es) out₀ → state l′ T′ ≡ repainted ends (state l T) es (take len out) → Exchanged n ends l u c d len l′ T′
   path-exchanged es out₀ out l′ T′ len p q h r s =
       let e = p ∙ right-path in
-      let colors : take len out ≡ exchangedColors l c d es = ap (λ (i : ℕ). take i out) q ∙ exchanged-front l c d es out₀ out r (omega (arith, q)) in (
-        q ∙ ap length e,
-        exchange-done ends (edgeCount ends) l T (E .tabled) l′ T′ c d (path ends (edgeCount ends) n l u d c) (E .allowed)
-            (s ∙ (ap (repainted ends (state l T) es) colors ∙ ap (λ (ks : List ℕ). repainted ends (state l T) ks (exchangedColors l c d ks)) e)),
-      )
+      let colors : take len out ≡ exchangedColors l c d es = ap (λ (i : ℕ). take i out) q ∙ exchanged-front l c d es out₀ out r (omega (arith, q)) in
+      let right = s ∙ (ap (repainted ends (state l T) es) colors ∙ ap (λ (ks : List ℕ). repainted ends (state l T) ks (exchangedColors l c d ks)) e) in
+      let done = exchange-done ends (edgeCount ends) l T (E .tabled) l′ T′ c d (path ends (edgeCount ends) n l u d c) (E .allowed) right in
+      record { count-is = q ∙ ap length e; list = done .0; tabled = done .1 }
 
 -- ---- the fan rotated
 
-module _ (ends l T fan : List ℕ) (d : ℕ) (L : TableOf ends (edgeCount ends) l T) (R : Repaintable ends (edgeCount ends) l fan (rotatedColors l (drop 1 fan) d)) (out : List ℕ) (e : take (length fan) out ≡ rotatedColors l (drop 1 fan) d) where
-  pub rotated-length : length fan ≡ length (take (length fan) out)
-  rotated-length = R .same-length ∙ sym (ap length e)
+module _ (ends l T fan : List ℕ) (d room : ℕ) (R : Rotating ends l T fan d room) where
+  -- The colours that are given are the new ones.
+  given : (colors l′ T′ : List ℕ) → colors ≡ rotatedColors l (drop 1 fan) d → state l′ T′ ≡ repainted ends (state l T) fan colors → Rotated ends l fan d l′ T′
+  given colors l′ T′ e s =
+      let done = repaint-done ends (edgeCount ends) l T fan (rotatedColors l (drop 1 fan) d) (R .tabled) (R .allowed) l′ T′ (s ∙ ap (repainted ends (state l T) fan) e) in
+      record { list = done .0; tabled = done .1 }
 
-  pub fan-rotated : (l′ T′ : List ℕ) → state l′ T′ ≡ repainted ends (state l T) fan (take (length fan) out)
-      → (l′ ≡ store l fan (rotatedColors l (drop 1 fan) d)) × TableOf ends (edgeCount ends) l′ T′
-  fan-rotated l′ T′ s = repaint-done ends (edgeCount ends) l T fan (rotatedColors l (drop 1 fan) d) L R l′ T′ (s ∙ ap (repainted ends (state l T) fan) e)
+  module _ (out₀ out : List ℕ) (e : out ≡ putFront (shiftedColors l fan d) out₀) (fits : length fan ≤ length out₀) where
+    taken-colors : take (length fan) out ≡ rotatedColors l (drop 1 fan) d
+    taken-colors = shifted-front l fan d out₀ out e (R .some) fits
 
--- A fan of one place takes d.
-pub fan-of-one : (ends l T fan : List ℕ) (d : ℕ) → TableOf ends (edgeCount ends) l T → Repaintable ends (edgeCount ends) l fan (rotatedColors l (drop 1 fan) d) → length fan ≡ 1
-    → (l′ T′ : List ℕ) → state l′ T′ ≡ repainted ends (state l T) fan (d ∷ []) → (l′ ≡ store l fan (rotatedColors l (drop 1 fan) d)) × TableOf ends (edgeCount ends) l′ T′
-fan-of-one ends l T [] d L R h l′ T′ s = let z : ⊥ = omega arith in absurd z
-fan-of-one ends l T (k ∷ []) d L R h l′ T′ s = repaint-done ends (edgeCount ends) l T (k ∷ []) (d ∷ []) L R l′ T′ s
-fan-of-one ends l T (k ∷ j ∷ ks) d L R h l′ T′ s = let z : ⊥ = omega arith in absurd z
+    pub rotated-length : length fan ≡ length (take (length fan) out)
+    rotated-length = R .allowed .same-length ∙ sym (ap length taken-colors)
+
+    pub fan-rotated : (l′ T′ : List ℕ) → state l′ T′ ≡ repainted ends (state l T) fan (take (length fan) out) → Rotated ends l fan d l′ T′
+    fan-rotated l′ T′ = given (take (length fan) out) l′ T′ taken-colors
+
+  -- A fan of one place takes d.
+  pub fan-of-one : length fan ≡ 1 → (l′ T′ : List ℕ) → state l′ T′ ≡ repainted ends (state l T) fan (d ∷ []) → Rotated ends l fan d l′ T′
+  fan-of-one h l′ T′ = given (d ∷ []) l′ T′ (sym (alone fan h))
+    where
+      alone : (ks : List ℕ) → length ks ≡ 1 → rotatedColors l (drop 1 ks) d ≡ d ∷ []
+      alone [] q = let z : ⊥ = omega arith in absurd z
+      alone (k ∷ []) q = refl
+      alone (k ∷ j ∷ ks) q = let z : ⊥ = omega arith in absurd z
 
 -- ---- steps 2 to 5
 
@@ -171,16 +180,16 @@ module _ (n : ℕ) (ends l T fan : List ℕ) (k u v : ℕ) (G : Turning n ends l
     pub turn-exchanging : Exchanging ends n l T u c d
     turn-exchanging = rw (G .first, c-is, d-is) exchanging-found
 
-    module _ (l′ T′ : List ℕ) (x : (l′ ≡ exchange l c d (path ends m n l u d c)) × TableOf ends m l′ T′) where
+    module _ (len : ℕ) (l′ T′ : List ℕ) (x : Exchanged n ends l u c d len l′ T′) where
       exchanged-is : l′ ≡ found .exchanged
       unfolding stepParts
-      exchanged-is = x .0 ∙ rw (G .first, c-is, d-is) refl
+      exchanged-is = x .list ∙ rw (G .first, c-is, d-is) refl
 
       module _ (r : ℕ) (pr : r ≡ 1 + length (tablePlaces ends T′ d u v (drop 1 fan))) where
         places-are : tablePlaces ends T′ d u v (found .fan) ≡ found .places
         unfolding stepParts
         places-are =
-            table-places ends m l′ T′ (λ w. Unit {0}) d (λ w t. says-free ends m l′ T′ (x .1) w d (λ z. omega (arith, d-is, low (found .d) (found-of .allowed-d)))) u v (found .fan) tt (λ j p. tt)
+            table-places ends m l′ T′ (λ w. Unit {0}) d (λ w t. says-free ends m l′ T′ (x .tabled) w d (λ z. omega (arith, d-is, low (found .d) (found-of .allowed-d)))) u v (found .fan) tt (λ j p. tt)
             ∙ rw (exchanged-is, d-is, G .first, G .second) refl
 
         taken : (take r fan ≡ k ∷ found .places) × (r ≤ length fan)
@@ -193,31 +202,28 @@ module _ (n : ℕ) (ends l T fan : List ℕ) (k u v : ℕ) (G : Turning n ends l
         next-kept = let a = G .admitted in step-keeps ends m n (InRange n ends) (a .simple) (a .inside) (a .edges) (palette n ends a) l k (G .edge) (G .kept)
 
         rotating : Repaintable ends m l′ (k ∷ found .places) (rotatedColors l′ (found .places) d)
-        rotating = rw (exchanged-is, d-is) (step-rotation ends m n (InRange n ends) low l k (G .edge) found-of T′ (rw exchanged-is at (x .1)) (G .kept) next-kept)
+        rotating = rw (exchanged-is, d-is) (step-rotation ends m n (InRange n ends) low l k (G .edge) found-of T′ (rw exchanged-is at (x .tabled)) (G .kept) next-kept)
 
-        pub turn-rotating : TableOf ends m l′ T′ × (Repaintable ends m l′ (take r fan) (rotatedColors l′ (drop 1 (take r fan)) d) × ((1 ≤ length (take r fan)) × (length (take r fan) ≤ 512)))
-        turn-rotating = (x .1, (rw (taken .0) rotating, (rw (taken .0) (omega arith), omega (arith, sym turn-count, taken .1, G .small))))
+        pub turn-rotating : Rotating ends l′ T′ (take r fan) d 512
+        turn-rotating = record { tabled = x .tabled; allowed = rw (taken .0) rotating; some = rw (taken .0) (omega arith); fits = omega (arith, sym turn-count, taken .1, G .small) }
 
-        pub turned : (l″ T″ : List ℕ) (color : ℕ) → (l″ ≡ store l′ (take r fan) (rotatedColors l′ (drop 1 (take r fan)) d)) × TableOf ends m l″ T″ → color ≡ topColor (find ends m n l k) → Turned n ends l k color l″ T″
-        unfolding rotatePlaces
-        turned l″ T″ color s t = record { list = s .0 ∙ rw (taken .0, exchanged-is, d-is) (sym (step-form ends m n l k)); tabled = s .1; top = t }
+        module _ (l″ T″ : List ℕ) (s : Rotated ends l′ (take r fan) d l″ T″) where
+          turned : (color : ℕ) → color ≡ topColor (find ends m n l k) → Turned n ends l k color l″ T″
+          unfolding rotatePlaces
+          turned color t = record { list = s .list ∙ rw (taken .0, exchanged-is, d-is) (sym (step-form ends m n l k)); tabled = s .tabled; top = t }
 
-    path-is : path ends m n l u d c ≡ found .path
-    unfolding stepParts
-    path-is = rw (G .first, c-is, d-is) refl
+          count-found : len ≡ length (found .path)
+          unfolding stepParts
+          count-found = x .count-is ∙ rw (G .first, c-is, d-is) refl
 
-    -- The one new colour that may be the greatest.
-    pub top-none : (len : ℕ) → len ≡ length (path ends m n l u d c) → len ≡ 0 → d ≡ topColor (find ends m n l k)
-    unfolding topColor
-    top-none len p z =
-        let s = find-form ends m n l k in
-        rw (s .path, s .c, s .d, eq-eqb (length (found .path)) 0 (sym (p ∙ ap length path-is) ∙ z)) d-is
+          -- The one new colour that may be the greatest.
+          pub turned-alone : len ≡ 0 → Turned n ends l k d l″ T″
+          unfolding topColor
+          turned-alone z = let f = find-form ends m n l k in turned d (rw (f .path, f .c, f .d, eq-eqb (length (found .path)) 0 (sym count-found ∙ z)) d-is)
 
-    pub top-some : (len : ℕ) → len ≡ length (path ends m n l u d c) → (len ≡ 0 → ⊥) → c ≡ topColor (find ends m n l k)
-    unfolding topColor
-    top-some len p z =
-        let s = find-form ends m n l k in
-        rw (s .path, s .c, s .d, ne-eqb (length (found .path)) 0 (λ q. z ((p ∙ ap length path-is) ∙ q))) c-is
+          pub turned-along : (len ≡ 0 → ⊥) → Turned n ends l k c l″ T″
+          unfolding topColor
+          turned-along z = let f = find-form ends m n l k in turned c (rw (f .path, f .c, f .d, ne-eqb (length (found .path)) 0 (λ q. z (count-found ∙ q))) c-is)
 
 -- ---- the step
 

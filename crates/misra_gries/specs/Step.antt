@@ -3,11 +3,11 @@ use Prim.Native.Nat.{ℕ, _≤_, _<_, _+_}
 use mathlib.Core.Path.{_≡_}
 use mathlib.Core.Logic.{_≢_}
 use mathlib.Core.List.{List}
-use lib.ListN.{length, getD}
+use lib.ListN.{length, getD, drop}
 use Rattle.graph.specs.Edges.{firstEnd, edgesAt, edgeCount, secondEnd}
 use Rattle.graph.specs.Color.{noColor}
-use Rattle.vizing.specs.MisraGries.{isFree, fanOf, path, Found, find, step, heldAfter, held}
-use Rattle.edge_table.specs.EdgeTable.{isEmpty, exchangedColors}
+use Rattle.vizing.specs.MisraGries.{isFree, fanOf, path, exchange, store, Found, find, step, heldAfter, held}
+use Rattle.edge_table.specs.EdgeTable.{isEmpty, exchangedColors, rotatedColors}
 use mathlib.Core.Bool.{cond}
 use lib.Dec.{eqb, ltb}
 use Rattle.graph.specs.Stretch.{Table}
@@ -67,6 +67,24 @@ pub record Exchanging (ends : List ℕ) (n : ℕ) (work table : List ℕ) (u c d
   pub c-color : c ≢ noColor
   pub d-color : d ≢ noColor
   pub allowed : Repaintable ends (edgeCount ends) work (path ends (edgeCount ends) n work u d c) (exchangedColors work c d (path ends (edgeCount ends) n work u d c))
+
+-- What it does: the path's edges have their colours exchanged, the table is right again, and `count` is how many they are.
+pub record Exchanged (n : ℕ) (ends work : List ℕ) (u c d count : ℕ) (work′ table′ : List ℕ) : Type 0 where
+  pub count-is : count ≡ length (path ends (edgeCount ends) n work u d c)
+  pub list : work′ ≡ exchange work c d (path ends (edgeCount ends) n work u d c)
+  pub tabled : TableOf ends (edgeCount ends) work′ table′
+
+-- What the rotation of the fan's places asks: the table is right, the places may take their new colours, and there are some, at most `room`.
+pub record Rotating (ends work table fan : List ℕ) (d room : ℕ) : Type 0 where
+  pub tabled : TableOf ends (edgeCount ends) work table
+  pub allowed : Repaintable ends (edgeCount ends) work fan (rotatedColors work (drop 1 fan) d)
+  pub some : 1 ≤ length fan
+  pub fits : length fan ≤ room
+
+-- What it does: each place has the colour of the next, the last has d, and the table is right again.
+pub record Rotated (ends work fan : List ℕ) (d : ℕ) (work′ table′ : List ℕ) : Type 0 where
+  pub list : work′ ≡ store work fan (rotatedColors work (drop 1 fan) d)
+  pub tabled : TableOf ends (edgeCount ends) work′ table′
 
 -- What steps 2 to 5 ask: the fan of edge k at u, its first end.
 pub record Turning (n : ℕ) (ends work table fan : List ℕ) (k u v : ℕ) : Type 0 where

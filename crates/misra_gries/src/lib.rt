@@ -15,10 +15,9 @@ use edge_table::EdgeTable;
 use graph::Checked;
 use graph::Color;
 use graph::Coloring;
+use graph::Graph;
 use graph::Refusal;
-use graph::check_graph;
 use graph::copy_colors;
-use incidence::incidence_front;
 use run::run;
 use simple_graph::check_simple;
 use tally::Tally;
@@ -52,29 +51,16 @@ fn color_simple(
     ensures answer { λ r. let ends = now (ends .entry) in ⌜ r ≡ daysOf (take (edgeCount ends) (held n ends (edgeCount ends))) ⌝ }
     ensures colors { λ _. let ends = now (ends .entry) in ⌜ now (colors .exit) ≡ take (edgeCount ends) (held n ends (edgeCount ends)) ⌝ }
 {
-    let mut work = [Color::NONE; 4096];
+    let mut work = [Color::NONE; Graph::MAX_EDGES];
     let mut table = [Color::NONE; EdgeTable::PLACES];
-    let mut marks = [0u16; 4096];
+    let mut marks = [0u16; Graph::MAX_EDGES];
     let tally = run(n, ends, starts, entries, &mut work, &mut table, &mut marks);
     let m = ends.len() / 2;
     copy_colors(&work[..m], colors);
     days_of_tally(tally)
 }
 
-// The same, the incidence table made first.
-fn color_admitted(n: usize, ends: &[u16], colors: &mut [u16]) -> usize
-    requires { ⌜ Admitted n (now ends) ⌝ }
-    requires { ⌜ length (now colors) ≡ edgeCount (now ends) ⌝ }
-    ensures answer { λ r. let ends = now (ends .entry) in ⌜ r ≡ daysOf (take (edgeCount ends) (held n ends (edgeCount ends))) ⌝ }
-    ensures colors { λ _. let ends = now (ends .entry) in ⌜ now (colors .exit) ≡ take (edgeCount ends) (held n ends (edgeCount ends)) ⌝ }
-{
-    let mut starts = [0u16; 513];
-    let mut entries = [0u16; 8192];
-    incidence_front(n, ends, &mut starts, &mut entries);
-    color_simple(n, ends, &starts, &entries, colors)
-}
-
-// Each edge gets a colour, by Misra and Gries 1992.
+// Each edge gets a colour, by Misra and Gries 1992. A wrong length is told after the graph checks and before loops and double edges.
 pub fn misra_gries_edge_color(n: usize, ends: &[u16], colors: &mut [u16]) -> Coloring
     ensures report { λ r. let ends = now (ends .entry) in let colors = now (colors .entry) in
         ⌜ reportOfColoring r ≡ misraGries n ends colors .report ⌝ }
@@ -83,23 +69,24 @@ pub fn misra_gries_edge_color(n: usize, ends: &[u16], colors: &mut [u16]) -> Col
     ensures vizing { λ r. let ends = now (ends .entry) in let colors₀ = now (colors .entry) in
         ⌜ VizingColoring n ends colors₀ (reportOfColoring r) (now (colors .exit)) ⌝ }
 {
-    match check_graph(n, ends) {
+    let mut starts = [0u16; Graph::STARTS];
+    let mut entries = [0u16; Graph::ENTRIES];
+    match check_simple(n, ends, &mut starts, &mut entries) {
         Checked::Refused(refusal) => {
-            return Coloring::Refused(refusal);
+            if refusal.number() < 6 {
+                return Coloring::Refused(refusal);
+            }
+            if colors.len() == ends.len() / 2 {
+                return Coloring::Refused(refusal);
+            }
+            Coloring::Refused(Refusal::WrongLength)
         }
         Checked::Accepted(graph) => {
             if colors.len() != graph.edges {
                 return Coloring::Refused(Refusal::WrongLength);
             }
-            match check_simple(n, ends) {
-                Checked::Refused(fault) => {
-                    return Coloring::Refused(fault);
-                }
-                Checked::Accepted(simple) => {
-                    let days = color_admitted(n, ends, colors);
-                    Coloring::Accepted { days }
-                }
-            }
+            let days = color_simple(n, ends, &starts, &entries, colors);
+            Coloring::Accepted { days }
         }
     }
 }

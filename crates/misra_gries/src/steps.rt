@@ -1,12 +1,6 @@
 // The step of one edge: its fan, the path exchanged, the fan rotated.
-ghost use mathlib.Core.Path.{_≡_};
-ghost use Prim.Native.Nat.{_≤_};
-ghost use lib.ListN.{length, drop};
-ghost use Rattle.graph.specs.Edges.{edgeCount};
-ghost use Rattle.vizing.specs.MisraGries.{path, exchange, store};
-ghost use Rattle.repaint.specs.Repaint.{TableOf, Repaintable};
-ghost use Rattle.edge_table.specs.EdgeTable.{rotatedColors};
-ghost use Rattle.misra_gries.specs.Step.{Ready, Stepped, Exchanging, Turning, Turned};
+ghost use lib.ListN.{length};
+ghost use Rattle.misra_gries.specs.Step.{Ready, Stepped, Exchanging, Exchanged, Rotating, Rotated, Turning, Turned};
 use crate::grow::grow;
 use edge_table::is_free;
 use edge_table::smallest_free;
@@ -16,6 +10,7 @@ use edge_walk::far_end;
 use fan::places_to;
 use graph::Color;
 use graph::EdgeIndex;
+use graph::Graph;
 use graph::NodeIndex;
 use recolor::follow;
 use recolor::shift_colors;
@@ -33,14 +28,11 @@ fn exchange_edges(
     d: Color,
 ) -> usize
     requires { ⌜ Exchanging (now ends) n (now work) (now table) (node .0) (c .0) (d .0) ⌝ }
-    ensures answer { λ r. let ends = now (ends .entry) in let work = now (work .entry) in
-        ⌜ r ≡ length (path ends (edgeCount ends) n work (node .0) (d .0) (c .0)) ⌝ }
-    ensures work_and_table { λ _. let work₀ = now (work .entry) in let ends = now (ends .entry) in
-        ⌜ (now (work .exit) ≡ exchange work₀ (c .0) (d .0) (path ends (edgeCount ends) n work₀ (node .0) (d .0) (c .0)))
-        × TableOf ends (edgeCount ends) (now (work .exit)) (now (table .exit)) ⌝ }
+    ensures exchanged { λ r. let ends = now (ends .entry) in let work₀ = now (work .entry) in
+        ⌜ Exchanged n ends work₀ (node .0) (c .0) (d .0) r (now (work .exit)) (now (table .exit)) ⌝ }
 {
-    let mut edges = [0u16; 512];
-    let mut colors = [0u16; 512];
+    let mut edges = [0u16; Graph::MAX_NODES];
+    let mut colors = [0u16; Graph::MAX_NODES];
     let len = follow(ends, table, node, d, c, &mut edges[..n]);
     swap_colors(work, &edges[..len], c, d, &mut colors);
     repaint(ends, work, table, &edges[..len], &colors[..len]);
@@ -58,11 +50,8 @@ fn exchange_few(
     d: Color,
 ) -> usize
     requires { ⌜ Exchanging (now ends) n (now work) (now table) (node .0) (c .0) (d .0) ⌝ }
-    ensures answer { λ r. let ends = now (ends .entry) in let work = now (work .entry) in
-        ⌜ r ≡ length (path ends (edgeCount ends) n work (node .0) (d .0) (c .0)) ⌝ }
-    ensures work_and_table { λ _. let work₀ = now (work .entry) in let ends = now (ends .entry) in
-        ⌜ (now (work .exit) ≡ exchange work₀ (c .0) (d .0) (path ends (edgeCount ends) n work₀ (node .0) (d .0) (c .0)))
-        × TableOf ends (edgeCount ends) (now (work .exit)) (now (table .exit)) ⌝ }
+    ensures exchanged { λ r. let ends = now (ends .entry) in let work₀ = now (work .entry) in
+        ⌜ Exchanged n ends work₀ (node .0) (c .0) (d .0) r (now (work .exit)) (now (table .exit)) ⌝ }
 {
     if n < 32 {
         return exchange_edges(n, ends, work, table, node, c, d);
@@ -89,11 +78,8 @@ fn exchange_path(
     d: Color,
 ) -> usize
     requires { ⌜ Exchanging (now ends) n (now work) (now table) (node .0) (c .0) (d .0) ⌝ }
-    ensures answer { λ r. let ends = now (ends .entry) in let work = now (work .entry) in
-        ⌜ r ≡ length (path ends (edgeCount ends) n work (node .0) (d .0) (c .0)) ⌝ }
-    ensures work_and_table { λ _. let work₀ = now (work .entry) in let ends = now (ends .entry) in
-        ⌜ (now (work .exit) ≡ exchange work₀ (c .0) (d .0) (path ends (edgeCount ends) n work₀ (node .0) (d .0) (c .0)))
-        × TableOf ends (edgeCount ends) (now (work .exit)) (now (table .exit)) ⌝ }
+    ensures exchanged { λ r. let ends = now (ends .entry) in let work₀ = now (work .entry) in
+        ⌜ Exchanged n ends work₀ (node .0) (c .0) (d .0) r (now (work .exit)) (now (table .exit)) ⌝ }
 {
     if is_free(table, node, d) {
         return 0;
@@ -110,12 +96,9 @@ fn rotate_places(
     d: Color,
     colors: &mut [u16],
 )
-    requires { ⌜ TableOf (now ends) (edgeCount (now ends)) (now work) (now table) ⌝ }
-    requires { ⌜ Repaintable (now ends) (edgeCount (now ends)) (now work) (now fan) (rotatedColors (now work) (drop 1 (now fan)) (d .0)) ⌝ }
-    requires { ⌜ (1 ≤ length (now fan)) × (length (now fan) ≤ length (now colors)) ⌝ }
-    ensures work_and_table { λ _. let work₀ = now (work .entry) in let fan = now (fan .entry) in let ends = now (ends .entry) in
-        ⌜ (now (work .exit) ≡ store work₀ fan (rotatedColors work₀ (drop 1 fan) (d .0)))
-        × TableOf ends (edgeCount ends) (now (work .exit)) (now (table .exit)) ⌝ }
+    requires { ⌜ Rotating (now ends) (now work) (now table) (now fan) (d .0) (length (now colors)) ⌝ }
+    ensures rotated { λ _. let ends = now (ends .entry) in let work₀ = now (work .entry) in let fan = now (fan .entry) in
+        ⌜ Rotated ends work₀ fan (d .0) (now (work .exit)) (now (table .exit)) ⌝ }
 {
     let len = fan.len();
     shift_colors(work, fan, d, colors);
@@ -124,12 +107,9 @@ fn rotate_places(
 
 // The same. Where the fan has one place, only that takes d, and no array has to be cleared for it; up to 32 places take a short one.
 fn rotate_fan(ends: &[u16], work: &mut [u16], table: &mut [u16], fan: &[u16], d: Color)
-    requires { ⌜ TableOf (now ends) (edgeCount (now ends)) (now work) (now table) ⌝ }
-    requires { ⌜ Repaintable (now ends) (edgeCount (now ends)) (now work) (now fan) (rotatedColors (now work) (drop 1 (now fan)) (d .0)) ⌝ }
-    requires { ⌜ (1 ≤ length (now fan)) × (length (now fan) ≤ 512) ⌝ }
-    ensures work_and_table { λ _. let work₀ = now (work .entry) in let fan = now (fan .entry) in let ends = now (ends .entry) in
-        ⌜ (now (work .exit) ≡ store work₀ fan (rotatedColors work₀ (drop 1 fan) (d .0)))
-        × TableOf ends (edgeCount ends) (now (work .exit)) (now (table .exit)) ⌝ }
+    requires { ⌜ Rotating (now ends) (now work) (now table) (now fan) (d .0) 512 ⌝ }
+    ensures rotated { λ _. let ends = now (ends .entry) in let work₀ = now (work .entry) in let fan = now (fan .entry) in
+        ⌜ Rotated ends work₀ fan (d .0) (now (work .exit)) (now (table .exit)) ⌝ }
 {
     if fan.len() == 1 {
         let colors = [d.0; 1];
@@ -141,7 +121,7 @@ fn rotate_fan(ends: &[u16], work: &mut [u16], table: &mut [u16], fan: &[u16], d:
         rotate_places(ends, work, table, fan, d, &mut colors);
         return;
     }
-    let mut colors = [0u16; 512];
+    let mut colors = [0u16; Graph::MAX_NODES];
     rotate_places(ends, work, table, fan, d, &mut colors);
 }
 
@@ -190,7 +170,7 @@ pub(crate) fn step(
     let node = end_at(ends, 2 * k);
     let far = end_at(ends, 2 * k + 1);
     let near = edges_at(starts, entries, node);
-    let mut fan = [0u16; 512];
+    let mut fan = [0u16; Graph::MAX_NODES];
     let len = grow(
         ends,
         work,

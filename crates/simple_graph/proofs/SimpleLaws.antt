@@ -2,17 +2,19 @@
 use Prim.Native.Nat.{ℕ, _+_, _*_, _≤_, _<_}
 use mathlib.Core.Path.{_≡_, refl, sym, _∙_}
 use mathlib.Core.List.{List, [], _∷_, _++_}
+use mathlib.Core.Logic.{_⊎_, inl, inr}
 use mathlib.Core.Bool.{true, false, true≢false, Bool}
 use native.Mathlib.Omega.{arith}
 use native.Mathlib.Numerals.{add-one}
-use lib.ListN.{getD}
-use borrow.Author.Tests.{eq-eqb, ne-eqb}
+use lib.ListN.{length, getD}
+use lib.Dec.{ltb, leb}
+use borrow.Author.Tests.{eq-eqb, ne-eqb, lt-ltb, le-ltb, le-leb, lt-leb}
 use Rattle.lists.proofs.Tests.{by-test}
 use Rattle.lists.specs.Search.{any}
 use Rattle.lists.proofs.SearchLaws.{any-false}
 use Rattle.graph.specs.Edges.{edgeCount, firstEnd, secondEnd, isLoop}
 use Rattle.vizing.specs.MisraGries.{hasLoop, hasDoubleEdge, simpleChecks}
-use mathlib.Core.Option.{none, some}
+use mathlib.Core.Option.{Option, none, some}
 use Rattle.graph.specs.Report.{accepted, refused, number, reportOfChecked}
 use Rattle.graph.specs.Check.{Check, _gives_, firstRefusal, graphChecks, checkGraph, Passed}
 use Rattle.graph.proofs.CheckLaws.{passed, refused-first, passed-first, passed-both, first-refuses, first-passes, all-passed, answered-refused, answered-accepted, checked-refused, checked-accepted, graph-refused, graph-accepted}
@@ -46,49 +48,72 @@ no-loop-all ends k e h b = let p : k ≡ edgeCount ends = omega arith in sym (rw
 
 -- ---- The graph checks and then those for loops and double edges: one law for each answer, and what the answer tells a caller.
 
--- ---- one law for each answer
+module _ (n : ℕ) (ends starts entries : List ℕ) where
+  abbrev afterGraph : List Check
+  afterGraph = (leb (length starts) n gives 5) ∷ (ltb (length entries) (length ends) gives 5) ∷ simpleChecks ends
 
-module _ (n : ℕ) (ends : List ℕ) where
-  abbrev checks : List Check
-  checks = graphChecks n ends ++ simpleChecks ends
+  -- With room in both slices.
+  after-room : n < length starts → length ends ≤ length entries → firstRefusal afterGraph ≡ firstRefusal (simpleChecks ends)
+  after-room h l = first-passes (leb (length starts) n) 5 _ (lt-leb (length starts) n h) ∙ first-passes (ltb (length entries) (length ends)) 5 _ (le-ltb (length entries) (length ends) l)
 
-  refuses : (k : ℕ) → firstRefusal checks ≡ some k → refused k ≡ checkSimple n ends
+  -- ---- one law for each answer
+
+  refuses : (k : ℕ) → firstRefusal (graphChecks n ends ++ afterGraph) ≡ some k → refused k ≡ checkSimple n ends starts entries
   unfolding checkSimple
-  refuses k e = answered-refused checks k _ e
+  refuses k e = answered-refused (graphChecks n ends ++ afterGraph) k _ e
 
-  pub graph-no : (c : Checked) (r : Refusal) → reportOfChecked c ≡ checkGraph n ends → c ≡ C.Refused r → refused (number r) ≡ checkSimple n ends
-  graph-no c r e p = refuses (number r) (refused-first (graphChecks n ends) (simpleChecks ends) (number r) (graph-refused n ends c r e p))
+  pub graph-no : (c : Checked) (r : Refusal) → reportOfChecked c ≡ checkGraph n ends → c ≡ C.Refused r → refused (number r) ≡ checkSimple n ends starts entries
+  graph-no c r e p = refuses (number r) (refused-first (graphChecks n ends) afterGraph (number r) (graph-refused n ends c r e p))
 
   module _ (c : Checked) (g : Graph) (e : reportOfChecked c ≡ checkGraph n ends) (p : c ≡ C.Accepted g) where
-    pub graph-yes : Passed n ends
-    graph-yes = passed n ends (graph-accepted n ends c g e p .0)
+    after : (o : Option ℕ) → firstRefusal afterGraph ≡ o → firstRefusal (graphChecks n ends ++ afterGraph) ≡ o
+    after o q = passed-first (graphChecks n ends) afterGraph (graph-accepted n ends c g e p .0) ∙ q
 
-    after-graph : firstRefusal checks ≡ firstRefusal (simpleChecks ends)
-    after-graph = passed-first (graphChecks n ends) (simpleChecks ends) (graph-accepted n ends c g e p .0)
+    pub starts-short : length starts ≤ n → refused 5 ≡ checkSimple n ends starts entries
+    starts-short h = refuses 5 (after _ (first-refuses (leb (length starts) n) 5 _ (le-leb (length starts) n h)))
 
-    pub loop-no : (b : Bool) → b ≡ hasLoop ends (edgeCount ends) → b ≡ true → refused 6 ≡ checkSimple n ends
-    loop-no b f h = refuses 6 (after-graph ∙ first-refuses (hasLoop ends (edgeCount ends)) 6 _ (sym f ∙ h))
+    module _ (rows : n < length starts) where
+      pub entries-short : length entries < length ends → refused 5 ≡ checkSimple n ends starts entries
+      entries-short h = refuses 5 (after _ (first-passes (leb (length starts) n) 5 _ (lt-leb (length starts) n rows) ∙ first-refuses (ltb (length entries) (length ends)) 5 _ (lt-ltb (length entries) (length ends) h)))
 
-    after-loop : (b : Bool) → b ≡ hasLoop ends (edgeCount ends) → b ≡ false → firstRefusal checks ≡ firstRefusal ((hasDoubleEdge ends (edgeCount ends) gives 7) ∷ [])
-    after-loop b f h = after-graph ∙ first-passes (hasLoop ends (edgeCount ends)) 6 _ (sym f ∙ h)
+      module _ (room : length ends ≤ length entries) (b : Bool) (f : b ≡ hasLoop ends (edgeCount ends)) where
+        pub loop-no : b ≡ true → refused 6 ≡ checkSimple n ends starts entries
+        loop-no h = refuses 6 (after _ (after-room rows room ∙ first-refuses (hasLoop ends (edgeCount ends)) 6 _ (sym f ∙ h)))
 
-    pub double-no : (b d : Bool) → b ≡ hasLoop ends (edgeCount ends) → b ≡ false → d ≡ hasDoubleEdge ends (edgeCount ends) → d ≡ true → refused 7 ≡ checkSimple n ends
-    double-no b d f h g k = refuses 7 (after-loop b f h ∙ first-refuses (hasDoubleEdge ends (edgeCount ends)) 7 [] (sym g ∙ k))
+        module _ (h : b ≡ false) (d : Bool) (j : d ≡ hasDoubleEdge ends (edgeCount ends)) where
+          after-loop : (o : Option ℕ) → firstRefusal ((hasDoubleEdge ends (edgeCount ends) gives 7) ∷ []) ≡ o → firstRefusal (graphChecks n ends ++ afterGraph) ≡ o
+          after-loop o q = after _ (after-room rows room ∙ (first-passes (hasLoop ends (edgeCount ends)) 6 _ (sym f ∙ h) ∙ q))
 
-    pub simple-yes : (b d : Bool) → b ≡ hasLoop ends (edgeCount ends) → b ≡ false → d ≡ hasDoubleEdge ends (edgeCount ends) → d ≡ false → accepted (g .nodes, g .edges) ≡ checkSimple n ends
+          pub double-no : d ≡ true → refused 7 ≡ checkSimple n ends starts entries
+          double-no k = refuses 7 (after-loop _ (first-refuses (hasDoubleEdge ends (edgeCount ends)) 7 [] (sym j ∙ k)))
+
+          pub simple-yes : d ≡ false → accepted (g .nodes, g .edges) ≡ checkSimple n ends starts entries
+          unfolding checkSimple
+          simple-yes k =
+              let q = graph-accepted n ends c g e p in
+              rw (q .1, q .2) (answered-accepted (graphChecks n ends ++ afterGraph) (n, edgeCount ends) (after-loop _ (first-passes (hasDoubleEdge ends (edgeCount ends)) 7 [] (sym j ∙ k) ∙ all-passed)))
+
+  -- ---- what the answer tells, where both slices have room for every table
+
+  module _ (c : Checked) (e : reportOfChecked c ≡ checkSimple n ends starts entries) (rows : 512 < length starts) (room : 8192 ≤ length entries) where
+    after-passed : Passed n ends → firstRefusal afterGraph ≡ firstRefusal (simpleChecks ends)
+    after-passed p = after-room (omega (arith, p .nodes)) (omega (arith, p .even, p .edges))
+
+    -- A refusal is a graph check's, or 6 or 7 after them.
+    pub simple-refused : (r : Refusal) → c ≡ C.Refused r → (firstRefusal (graphChecks n ends) ≡ some (number r)) ⊎ ((firstRefusal (graphChecks n ends) ≡ none) × (firstRefusal (simpleChecks ends) ≡ some (number r)))
     unfolding checkSimple
-    simple-yes b d f h j k =
-        let q = graph-accepted n ends c g e p in
-        rw (q .1, q .2) (answered-accepted checks (n, edgeCount ends) (after-loop b f h ∙ (first-passes (hasDoubleEdge ends (edgeCount ends)) 7 [] (sym j ∙ k) ∙ all-passed)))
+    simple-refused r p = go (firstRefusal (graphChecks n ends)) refl
+      where
+        f : firstRefusal (graphChecks n ends ++ afterGraph) ≡ some (number r)
+        f = checked-refused (graphChecks n ends ++ afterGraph) (n, edgeCount ends) c r e p
 
--- ---- what the answer tells
+        go : (o : Option ℕ) → firstRefusal (graphChecks n ends) ≡ o → (firstRefusal (graphChecks n ends) ≡ some (number r)) ⊎ ((firstRefusal (graphChecks n ends) ≡ none) × (firstRefusal (simpleChecks ends) ≡ some (number r)))
+        go (some k) q = inl (q ∙ (sym (refused-first (graphChecks n ends) afterGraph k q) ∙ f))
+        go none q = inr (q, sym (passed-first (graphChecks n ends) afterGraph q ∙ after-passed (passed n ends q)) ∙ f)
 
-module _ (n : ℕ) (ends : List ℕ) (c : Checked) (e : reportOfChecked c ≡ checkSimple n ends) where
-  -- After graph checks that passed, a refusal is 6 or 7.
-  pub simple-refused : (r : Refusal) → firstRefusal (graphChecks n ends) ≡ none → c ≡ C.Refused r → firstRefusal (simpleChecks ends) ≡ some (number r)
-  unfolding checkSimple
-  simple-refused r g p = sym (passed-first (graphChecks n ends) (simpleChecks ends) g) ∙ checked-refused (graphChecks n ends ++ simpleChecks ends) (n, edgeCount ends) c r e p
-
-  pub simple-accepted : (g : Graph) → c ≡ C.Accepted g → firstRefusal (simpleChecks ends) ≡ none
-  unfolding checkSimple
-  simple-accepted g p = passed-both (graphChecks n ends) (simpleChecks ends) (checked-accepted (graphChecks n ends ++ simpleChecks ends) (n, edgeCount ends) c g e p .0) .1
+    pub simple-accepted : (g : Graph) → c ≡ C.Accepted g → (firstRefusal (graphChecks n ends) ≡ none) × (firstRefusal (simpleChecks ends) ≡ none) × (g .edges ≡ edgeCount ends)
+    unfolding checkSimple
+    simple-accepted g p =
+        let a = checked-accepted (graphChecks n ends ++ afterGraph) (n, edgeCount ends) c g e p in
+        let b = passed-both (graphChecks n ends) afterGraph (a .0) in
+        (b .0, sym (after-passed (passed n ends (b .0))) ∙ b .1, a .2)

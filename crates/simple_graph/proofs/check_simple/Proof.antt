@@ -1,31 +1,58 @@
--- `check_simple` meets its contract: each answer's tests say which check refuses, or that none does.
+-- `check_simple` meets its contract: each answer's tests say which check refuses, or that none does; the slices are as the table's call left them.
 use mathlib.Core.Path.{sym, _∙_}
+use native.Mathlib.Omega.{arith}
 use borrow.Author.Needs.{needs}
-use Rattle.simple_graph.proofs.SimpleLaws.{graph-no, graph-yes, loop-no, double-no, simple-yes}
+use Rattle.graph.proofs.CheckLaws.{passed, graph-accepted}
+use Rattle.simple_graph.proofs.SimpleLaws.{graph-no, starts-short, entries-short, loop-no, double-no, simple-yes}
 use Rattle.simple_graph.proofs.check_simple.Statement.{statement}
 use Rattle.simple_graph.proofs.check_simple.Tie as tie
 
 returns : tie.Need-returns
-returns c = graph-no _ _ _ _ (c .before .before .before .check-graph .ensures) (c .before .refusal .given .1)
+returns c = (graph-no _ _ _ _ _ _ (c .before .before .before .check-graph .ensures) (c .before .refusal .given .1), c .before .before .before .before .before .before .before .before .incidence-front .ensures)
 
 returns-2 : tie.Need-returns-2
-returns-2 c = loop-no _ _ _ _ (c .before .before .before .before .before .check-graph .ensures) (c .before .before .before .graph .given .1) _ (c .before .has-loop .ensures) (c .if1 .taken)
-
-has-double-edge-requires : tie.Need-has-double-edge-requires
-has-double-edge-requires c κs = (graph-yes _ _ _ _ (c .before .before .before .before .before .check-graph .ensures) (c .before .before .before .graph .given .1), sym (c .before .has-loop .ensures) ∙ c .if1 .left)
+returns-2 c =
+    let front = c .before .before .before .before .before .before .before .before .before .incidence-front in
+    (starts-short _ _ _ _ _ _ (c .before .before .before .before .check-graph .ensures) (c .before .before .graph .given .1) (omega (arith, front .kept .1 .1 .0)), front .ensures)
 
 returns-3 : tie.Need-returns-3
-returns-3 c = double-no _ _ _ _ (c .before .before .before .before .before .before .before .check-graph .ensures) (c .before .before .before .before .before .graph .given .1) _ _ (c .before .before .before .has-loop .ensures) (c .before .before .if1 .left) (c .before .has-double-edge .ensures) (c .if2 .taken)
+returns-3 c =
+    let front = c .before .before .before .before .before .before .before .before .before .before .incidence-front in
+    (entries-short _ _ _ _ _ _ (c .before .before .before .before .before .check-graph .ensures) (c .before .before .before .graph .given .1) (omega (arith, front .kept .1 .1 .0)) (omega (arith, front .kept .1 .1 .1 .0)), front .ensures)
 
 returns-4 : tie.Need-returns-4
-returns-4 c = simple-yes _ _ _ _ (c .before .before .before .before .before .before .before .check-graph .ensures) (c .before .before .before .before .before .graph .given .1) _ _ (c .before .before .before .has-loop .ensures) (c .before .before .if1 .left) (c .before .has-double-edge .ensures) (c .if2 .left)
+returns-4 c =
+    let front = c .before .before .before .before .before .before .before .before .before .before .before .before .incidence-front in
+    (loop-no _ _ _ _ _ _ (c .before .before .before .before .before .before .before .check-graph .ensures) (c .before .before .before .before .before .graph .given .1) (omega (arith, front .kept .1 .1 .0)) (omega (arith, front .kept .1 .1 .1 .0)) _ (c .before .has-loop .ensures) (c .if3 .taken), front .ensures)
+
+table-has-double-requires : tie.Need-table-has-double-requires
+table-has-double-requires c κs =
+    let front = c .before .before .before .before .before .before .before .before .before .before .before .before .before .before .incidence-front in
+    let p = passed _ _ (graph-accepted _ _ _ _ (c .before .before .before .before .before .before .before .before .before .check-graph .ensures) (c .before .before .before .before .before .before .before .graph .given .1) .0) in
+    (p, (sym (c .before .before .before .has-loop .ensures) ∙ c .before .before .if3 .left, front .ensures .1 .1 p (omega (arith, front .kept .1 .1 .0)) (omega (arith, front .kept .1 .1 .1 .0))))
+
+returns-5 : tie.Need-returns-5
+returns-5 c =
+    let front = c .before .before .before .before .before .before .before .before .before .before .before .before .before .before .before .before .incidence-front in
+    (double-no _ _ _ _ _ _ (c .before .before .before .before .before .before .before .before .before .before .before .check-graph .ensures) (c .before .before .before .before .before .before .before .before .before .graph .given .1) (omega (arith, front .kept .1 .1 .0)) (omega (arith, front .kept .1 .1 .1 .0)) _ (c .before .before .before .before .before .has-loop .ensures) (c .before .before .before .before .if3 .left) _ (c .before .table-has-double .ensures) (c .if4 .taken), front .ensures)
+
+returns-6 : tie.Need-returns-6
+returns-6 c =
+    let front = c .before .before .before .before .before .before .before .before .before .before .before .before .before .before .before .before .incidence-front in
+    (simple-yes _ _ _ _ _ _ (c .before .before .before .before .before .before .before .before .before .before .before .check-graph .ensures) (c .before .before .before .before .before .before .before .before .before .graph .given .1) (omega (arith, front .kept .1 .1 .0)) (omega (arith, front .kept .1 .1 .1 .0)) _ (c .before .before .before .before .before .has-loop .ensures) (c .before .before .before .before .if3 .left) _ (c .before .table-has-double .ensures) (c .if4 .left), front .ensures)
 
 pub check-simple-spec : {M : Type 1} → statement M
 check-simple-spec = tie.close (tie.spec
-    (λ c κs. search needs) (λ c. search needs)
+    (λ c κs. search needs) (λ c κs. search needs) (λ c. search needs) (λ c. search needs) (λ c. search needs)
     returns
-    (λ c. search needs) (λ c κs. search needs)
+    (λ c. search needs) (λ c. search needs) (λ c. search needs)
     returns-2
-    has-double-edge-requires
+    (λ c. search needs) (λ c. search needs)
     returns-3
-    returns-4)
+    (λ c κs. search needs) (λ c. search needs) (λ c. search needs)
+    returns-4
+    table-has-double-requires
+    (λ c. search needs) (λ c. search needs)
+    returns-5
+    (λ c. search needs) (λ c. search needs)
+    returns-6)

@@ -1,15 +1,14 @@
 -- `rotate_places` meets its contract: the new colours are read, then the fan's places take them.
 use borrow.Author.Needs.{needs}
-use Rattle.recolor.proofs.NewColorsLaws.{shifted-front}
 use Rattle.misra_gries.proofs.StepLaws.{rotated-length, fan-rotated}
 use Rattle.misra_gries.proofs.steps.rotate_places.Statement.{statement}
 use Rattle.misra_gries.proofs.steps.rotate_places.Tie as tie
 
 slice-aggregate-repaint : tie.Need-slice-aggregate-repaint
-slice-aggregate-repaint c = let p = c .before .before .before .before .before .before .before .before .before .before .before .before .before .pre in rotated-length _ _ _ _ _ (p .0) (p .1 .0) _ (shifted-front _ _ _ _ _ (c .before .before .before .before .before .shift-colors .ensures) (p .1 .1 .0) (p .1 .1 .1))
+slice-aggregate-repaint c = let p = c .before .before .before .before .before .before .before .before .before .before .before .before .before .pre in rotated-length _ _ _ _ _ _ p _ _ (c .before .before .before .before .before .shift-colors .ensures) (p .fits)
 
 returns : tie.Need-returns
-returns c = let p = c .before .before .before .before .before .before .before .before .before .before .before .before .before .before .before .before .before .before .pre in fan-rotated _ _ _ _ _ (p .0) (p .1 .0) _ (shifted-front _ _ _ _ _ (c .before .before .before .before .before .before .before .before .before .before .shift-colors .ensures) (p .1 .1 .0) (p .1 .1 .1)) _ _ (c .before .before .before .before .repaint .ensures)
+returns c = let p = c .before .before .before .before .before .before .before .before .before .before .before .before .before .before .before .before .before .before .pre in fan-rotated _ _ _ _ _ _ p _ _ (c .before .before .before .before .before .before .before .before .before .before .shift-colors .ensures) (p .fits) _ _ (c .before .before .before .before .repaint .ensures)
 
 pub rotate-places-spec : {M : Type 1} → statement M
 rotate-places-spec = tie.close (tie.spec
