@@ -19,7 +19,7 @@ use Rattle.graph.specs.Check.{Passed}
 use Rattle.graph.proofs.NeighborLaws.{passed-degree, degree-bound}
 use Rattle.line_list.proofs.LineNeighborLaws.{line-neighbor-count, line-neighbor-count-loop}
 use Rattle.greedy.specs.Turn.{uncolored}
-use Rattle.greedy.proofs.TurnLaws.{uncolored-member, edge-neighbors, color-item}
+use Rattle.greedy.proofs.TurnLaws.{uncolored-member, edge-neighbors, in-order-next}
 use Rattle.greedy.specs.Degree.{colorInOrder, degreeOrder, degreeColors}
 use Rattle.items.specs.declared.Kind.{Kind}
 use Rattle.items.specs.declared.Kind.the-variants.{Nodes, Edges}
@@ -135,8 +135,7 @@ module _ (order colors : List ℕ) (i : ℕ) (waiting : Waiting (drop i order) c
 
 module _ (nb : ℕ → List ℕ) where
   pub turn-next : (order colors : List ℕ) (i c : ℕ) {r : List ℕ} → colorInOrder nb (drop i order) colors ≡ r → i < length order → c ≡ smallestFreeAt colors (nb (getD order i 0)) → colorInOrder nb (drop (i + 1) order) (set colors (getD order i 0) c) ≡ r
-  unfolding colorInOrder
-  turn-next order colors i c e h p = rw (add-one i, p) (rw (drop-cons order i 0 h, color-item nb colors (getD order i 0)) at e)
+  turn-next order colors i c e h p = rw (add-one i, p) (sym (in-order-next nb (getD order i 0) (drop (suc i) order) colors) ∙ (rw (drop-cons order i 0 h) at e))
 
   pub turns-done : (order colors : List ℕ) (i : ℕ) {r : List ℕ} → colorInOrder nb (drop i order) colors ≡ r → length order ≤ i → colors ≡ r
   unfolding colorInOrder

@@ -123,6 +123,10 @@ pub color-item : (nb : ℕ → List ℕ) (colors : List ℕ) (v : ℕ) → color
 unfolding colorItem
 color-item nb colors v = refl
 
+pub in-order-next : (nb : ℕ → List ℕ) (v : ℕ) (vs colors : List ℕ) → colorInOrder nb (v ∷ vs) colors ≡ colorInOrder nb vs (set colors v (smallestFreeAt colors (nb v)))
+unfolding colorInOrder colorItem
+in-order-next nb v vs colors = refl
+
 module _ (nb : ℕ → List ℕ) (n : ℕ) (hood : Neighborhood nb n) where
   module _ (colors : List ℕ) (size : length colors ≡ n) (v : ℕ) (inside : v < n) where
     abbrev chosen : ℕ

@@ -17,13 +17,16 @@ abbrev μ-loop : tie.MeasureT-loop
 μ-loop kind ends starts entries edges colors color at₀ marks₀ node i₀ at marks i = length edges - i
 
 loop-holds : tie.Need-loop-holds Inv-loop μ-loop
-loop-holds c = (omega arith, refl, refl, c .before .before .before .before .before .before .before .pre, along-none _ _ _ _ (c .before .before .before .before .before .before .before .args .edges .now) _)
+loop-holds c = let at-entry = c .before .before .before .before .before .before .before in
+    (omega arith, refl, refl, at-entry .pre, along-none _ _ _ _ (at-entry .args .edges .now) _)
 
 loop-again : tie.Need-loop-again Inv-loop μ-loop
-loop-again c = (omega (arith, c .before .before .before .before .before .before .before .before .loop-test .taken), search needs, search needs, c .before .before .before .before .item-mark .ensures .1, along-more _ _ _ _ _ _ _ _ (c .before .before .before .before .before .before .before .before .before .loop .inv .4) (c .before .before .before .before .before .before .before .before .loop-test .taken) _ _ (c .before .before .before .before .before .before .across .ensures) (c .before .before .before .before .item-mark .ensures .0))
+loop-again c = let at-item-mark = c .before .before .before .before in let at-across = at-item-mark .before .before in let at-test = at-across .before .before in let at-loop = at-test .before in
+    (omega (arith, at-test .loop-test .taken), search needs, search needs, at-item-mark .item-mark .ensures .1, along-more _ _ _ _ _ _ _ _ (at-loop .loop .inv .4) (at-test .loop-test .taken) _ _ (at-across .across .ensures) (at-item-mark .item-mark .ensures .0))
 
 loop-again-2 : tie.Need-loop-again-2 Inv-loop μ-loop
-loop-again-2 c = (omega (arith, c .before .before .before .before .before .before .before .before .loop-test .taken), search needs, search needs, c .before .before .before .before .item-mark .ensures .1, along-outside _ _ _ _ _ _ _ _ (c .before .before .before .before .before .before .before .before .before .loop .inv .4) (c .before .before .before .before .before .before .before .before .loop-test .taken) _ (c .before .before .before .before .before .before .across .ensures) (c .if1 .left))
+loop-again-2 c = let at-item-mark = c .before .before .before .before in let at-across = at-item-mark .before .before in let at-test = at-across .before .before in let at-loop = at-test .before in
+    (omega (arith, at-test .loop-test .taken), search needs, search needs, at-item-mark .item-mark .ensures .1, along-outside _ _ _ _ _ _ _ _ (at-loop .loop .inv .4) (at-test .loop-test .taken) _ (at-across .across .ensures) (c .if1 .left))
 
 returns : tie.Need-returns Inv-loop μ-loop
 returns c = (along-all _ _ _ _ _ _ _ _ (c .before .loop .inv .4) (c .before .loop .inv .0) (c .loop-test .left), c .before .loop .inv .3)

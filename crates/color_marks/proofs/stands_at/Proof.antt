@@ -18,10 +18,12 @@ abbrev μ-loop : tie.MeasureT-loop
 μ-loop kind ends starts entries colors node color edges i₀ i = i
 
 returns : tie.Need-returns Inv-loop μ-loop
-returns c = stands-here _ _ _ _ _ _ _ (c .before .before .before .before .before .before .before .loop-test .taken) (c .before .before .before .before .before .before .before .before .loop .inv .0) _ (c .before .before .before .before .before .across .ensures) (c .before .before .before .if1 .taken) (c .if2 .taken) _ (c .before .before .before .before .before .before .before .before .before .edges-at .ensures .0)
+returns c = let at-if1 = c .before .before .before in let at-across = at-if1 .before .before in let at-test = at-across .before .before in let at-loop = at-test .before in let at-edges-at = at-loop .before in
+    stands-here _ _ _ _ _ _ _ (at-test .loop-test .taken) (at-loop .loop .inv .0) _ (at-across .across .ensures) (at-if1 .if1 .taken) (c .if2 .taken) _ (at-edges-at .edges-at .ensures .0)
 
 loop-again : tie.Need-loop-again Inv-loop μ-loop
-loop-again c = (omega (arith, c .before .before .before .before .before .before .before .before .loop .inv .0), stands-other _ _ _ _ _ _ _ (c .before .before .before .before .before .before .before .loop-test .taken) (c .before .before .before .before .before .before .before .before .loop .inv .0) _ (c .before .before .before .before .before .across .ensures) (c .before .before .before .before .before .before .before .before .loop .inv .1) (c .if2 .left))
+loop-again c = let at-across = c .before .before .before .before .before in let at-test = at-across .before .before in let at-loop = at-test .before in
+    (omega (arith, at-loop .loop .inv .0), stands-other _ _ _ _ _ _ _ (at-test .loop-test .taken) (at-loop .loop .inv .0) _ (at-across .across .ensures) (at-loop .loop .inv .1) (c .if2 .left))
 
 loop-again-2 : tie.Need-loop-again-2 Inv-loop μ-loop
 loop-again-2 c = (omega (arith, c .before .before .before .before .before .loop .inv .0), stands-outside _ _ _ _ _ _ _ (c .before .before .before .before .loop-test .taken) (c .before .before .before .before .before .loop .inv .0) _ (c .before .before .across .ensures) (c .before .before .before .before .before .loop .inv .1) (c .if1 .left))

@@ -6,7 +6,8 @@ use Rattle.degree.proofs.color_checked_edges.Tie as tie
 
 color-checked-requires : tie.Need-color-checked-requires
 color-checked-requires c κs =
-    let start = c .before .before .before .before .before .before .before in
+    let at-7 = c .before .before .before .before .before .before .before in
+    let start = at-7 in
     let p = start .pre in
     (p .0, (p .1, edges-room _ _ (p .0)))
 

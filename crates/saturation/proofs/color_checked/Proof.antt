@@ -9,10 +9,11 @@ use Rattle.saturation.proofs.color_checked.Tie as tie
 
 run-requires : tie.Need-run-requires
 run-requires c κs =
-    let p = c .before .before .before .before .before .before .before .before .before .before .before .before .before .pre in
+    let at-incidence-front = c .before .before .before .before .before .before .before in let at-entry = at-incidence-front .before .before .before .before .before .before in
+    let p = at-entry .pre in
     let e = p .1 .1 in
-    let colors = c .before .before .before .before .before .before .before .before .before .before .before .before .before .args .colors .now in
-    (items-tabled _ _ _ _ _ colors (p .0) (c .before .before .before .before .before .before .before .incidence-front .ensures .1 .1 (p .0) (omega (arith, p .0 .nodes)) (omega (arith, p .0 .even, p .0 .edges))) e, (e ∙ sym (p .1 .0), refl, refl))
+    let colors = at-entry .args .colors .now in
+    (items-tabled _ _ _ _ _ colors (p .0) (at-incidence-front .incidence-front .ensures .1 .1 (p .0) (omega (arith, p .0 .nodes)) (omega (arith, p .0 .even, p .0 .edges))) e, (e ∙ sym (p .1 .0), refl, refl))
 
 returns : tie.Need-returns
 returns c = (c .days-of .ensures, search (needs, from-presets))

@@ -13,16 +13,19 @@ slice-aggregate-copy-out : tie.Need-slice-aggregate-copy-out
 slice-aggregate-copy-out c = let s = c .before .before .before .before .before .color-nodes .ensures .sided (c .before .if1 .taken) in sym (sides-fit _ _ _ _ s .0)
 
 copy-out-requires : tie.Need-copy-out-requires
-copy-out-requires c κs = let s = c .before .before .before .before .before .before .color-nodes .ensures .sided (c .before .before .if1 .taken) in let f = sides-fit _ _ _ _ s in (c .before .before .before .before .before .before .before .before .before .before .before .before .pre .1 ∙ sym (f .0), f .1)
+copy-out-requires c κs = let at-color-nodes = c .before .before .before .before .before .before in let at-entry = at-color-nodes .before .before .before .before .before .before in
+    let s = at-color-nodes .color-nodes .ensures .sided (c .before .before .if1 .taken) in let f = sides-fit _ _ _ _ s in (at-entry .pre .1 ∙ sym (f .0), f .1)
 
 slice-aggregate-days-of : tie.Need-slice-aggregate-days-of
-slice-aggregate-days-of c = let s = c .before .before .before .before .before .before .before .before .before .before .color-nodes .ensures .sided (c .before .before .before .before .before .before .if1 .taken) in sym (sides-fit _ _ _ _ s .0)
+slice-aggregate-days-of c = let at-if1 = c .before .before .before .before .before .before in let at-color-nodes = at-if1 .before .before .before .before in
+    let s = at-color-nodes .color-nodes .ensures .sided (at-if1 .if1 .taken) in sym (sides-fit _ _ _ _ s .0)
 
 returns : tie.Need-returns
 returns c =
-    let s = c .before .before .before .before .before .before .before .before .before .before .before .color-nodes .ensures in
-    let taken = c .before .before .before .before .before .before .before .if1 .taken in
-    sides-accepted _ _ _ _ _ _ (s .even taken) (s .sided taken) (c .days-of .ensures) (c .before .before .before .before .copy-out .ensures)
+    let at-copy-out = c .before .before .before .before in let at-if1 = at-copy-out .before .before .before in let at-color-nodes = at-if1 .before .before .before .before in
+    let s = at-color-nodes .color-nodes .ensures in
+    let taken = at-if1 .if1 .taken in
+    sides-accepted _ _ _ _ _ _ (s .even taken) (s .sided taken) (c .days-of .ensures) (at-copy-out .copy-out .ensures)
 
 pub color-checked-spec : {M : Type 1} → statement M
 color-checked-spec = tie.close (tie.spec

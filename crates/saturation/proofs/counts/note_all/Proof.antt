@@ -18,18 +18,21 @@ abbrev μ-loop : tie.MeasureT-loop
 μ-loop kind ends edges colors saturations₀ waiting₀ marks₀ node i₀ saturations waiting marks i = length edges - i
 
 loop-holds : tie.Need-loop-holds Inv-loop μ-loop
-loop-holds c = (omega arith, refl, refl, refl, notes-none _ _ _ (c .before .before .before .before .before .before .args .edges .now) _ _ _ _)
+loop-holds c = let at-entry = c .before .before .before .before .before .before in
+    (omega arith, refl, refl, refl, notes-none _ _ _ (at-entry .args .edges .now) _ _ _ _)
 
 note-requires : tie.Need-note-requires Inv-loop μ-loop
 note-requires c κs =
-    let e = c .before .before .before .across .ensures in
-    let b = c .before .before .before .before .before .before .before .before .before .before .before .before .before .pre .0 (c .before .before .before .before .before .before .loop .i) (c .before .before .before .before .before .loop-test .taken) in
-    let room = c .before .before .before .before .before .before .before .before .before .before .before .before .before .pre .1 .1 in
-    let i = c .before .before .before .before .before .before .loop .inv in
-    ((omega (arith, e, b), omega (arith, e, b, room .0, i .1), omega (arith, e, b, room .1, i .2), omega (arith, e, b, room .2, i .3)), λ z. notes-room _ _ _ _ _ _ _ _ _ _ _ _ (c .before .before .before .before .before .before .before .before .before .before .before .before .before .pre .1 .0) (i .4) (c .before .before .before .before .before .loop-test .taken) _ e (omega (arith, e, b)) z)
+    let at-across = c .before .before .before in let at-test = at-across .before .before in let at-loop = at-test .before in let at-entry = at-loop .before .before .before .before .before .before .before in
+    let e = at-across .across .ensures in
+    let b = at-entry .pre .0 (at-loop .loop .i) (at-test .loop-test .taken) in
+    let room = at-entry .pre .1 .1 in
+    let i = at-loop .loop .inv in
+    ((omega (arith, e, b), omega (arith, e, b, room .0, i .1), omega (arith, e, b, room .1, i .2), omega (arith, e, b, room .2, i .3)), λ z. notes-room _ _ _ _ _ _ _ _ _ _ _ _ (at-entry .pre .1 .0) (i .4) (at-test .loop-test .taken) _ e (omega (arith, e, b)) z)
 
 loop-again : tie.Need-loop-again Inv-loop μ-loop
-loop-again c = (search needs, search needs, search needs, search needs, notes-more _ _ _ _ _ _ _ _ _ _ _ _ _ _ _ (c .before .before .before .before .before .before .before .before .before .before .before .before .before .loop .inv .4) (c .before .before .before .before .before .before .before .before .before .before .before .before .loop-test .taken) _ (c .before .before .before .before .before .before .before .before .before .before .across .ensures) (c .before .before .before .before .before .before .note .ensures))
+loop-again c = let at-note = c .before .before .before .before .before .before in let at-across = at-note .before .before .before .before in let at-test = at-across .before .before in let at-loop = at-test .before in
+    (search needs, search needs, search needs, search needs, notes-more _ _ _ _ _ _ _ _ _ _ _ _ _ _ _ (at-loop .loop .inv .4) (at-test .loop-test .taken) _ (at-across .across .ensures) (at-note .note .ensures))
 
 returns : tie.Need-returns Inv-loop μ-loop
 returns c = let i = c .before .loop .inv in notes-all _ _ _ _ _ _ _ _ _ _ _ _ (i .4) (i .0) (c .loop-test .left)

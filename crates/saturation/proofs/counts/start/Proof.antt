@@ -19,13 +19,16 @@ abbrev μ-loop : tie.MeasureT-loop
 μ-loop kind n ends starts entries colors₀ waiting₀ v₀ colors waiting v = length colors₀ - v
 
 cast-waiting : tie.Need-cast-waiting Inv-loop μ-loop
-cast-waiting c = omega (arith, c .loop-test .taken, c .before .loop .inv .1, items-few _ _ _ _ (c .before .before .before .before .before .before .before .pre .0 .sized))
+cast-waiting c = let at-entry = c .before .before .before .before .before .before .before in
+    omega (arith, c .loop-test .taken, c .before .loop .inv .1, items-few _ _ _ _ (at-entry .pre .0 .sized))
 
 cast-waiting-2 : tie.Need-cast-waiting-2 Inv-loop μ-loop
-cast-waiting-2 c = omega (arith, neighbors-few _ _ _ _ _ _ (c .before .before .before .before .before .before .before .before .pre .0) _ _ (omega (arith, c .before .loop-test .taken, c .before .before .loop .inv .1)) (c .neighbor-count .ensures ∙ neighbors-counted _ _ _ _ _ _ (c .before .before .before .before .before .before .before .before .pre .0) _ (omega (arith, c .before .loop-test .taken, c .before .before .loop .inv .1))))
+cast-waiting-2 c = let at-entry = c .before .before .before .before .before .before .before .before in
+    omega (arith, neighbors-few _ _ _ _ _ _ (at-entry .pre .0) _ _ (omega (arith, c .before .loop-test .taken, c .before .before .loop .inv .1)) (c .neighbor-count .ensures ∙ neighbors-counted _ _ _ _ _ _ (at-entry .pre .0) _ (omega (arith, c .before .loop-test .taken, c .before .before .loop .inv .1))))
 
 loop-again : tie.Need-loop-again Inv-loop μ-loop
-loop-again c = (omega (arith, c .before .loop-test .taken, c .before .before .loop .inv .1), search needs, search needs, started-more _ _ _ _ _ (c .before .before .loop .inv .3) (omega (arith, c .before .loop-test .taken)) (omega (arith, c .before .loop-test .taken, c .before .before .loop .inv .1, c .before .before .loop .inv .2, c .before .before .before .before .before .before .before .before .pre .1)) (c .neighbor-count .ensures ∙ neighbors-counted _ _ _ _ _ _ (c .before .before .before .before .before .before .before .before .pre .0) _ (omega (arith, c .before .loop-test .taken, c .before .before .loop .inv .1))))
+loop-again c = let at-entry = c .before .before .before .before .before .before .before .before in
+    (omega (arith, c .before .loop-test .taken, c .before .before .loop .inv .1), search needs, search needs, started-more _ _ _ _ _ (c .before .before .loop .inv .3) (omega (arith, c .before .loop-test .taken)) (omega (arith, c .before .loop-test .taken, c .before .before .loop .inv .1, c .before .before .loop .inv .2, at-entry .pre .1)) (c .neighbor-count .ensures ∙ neighbors-counted _ _ _ _ _ _ (at-entry .pre .0) _ (omega (arith, c .before .loop-test .taken, c .before .before .loop .inv .1))))
 
 returns : tie.Need-returns Inv-loop μ-loop
 returns c = started-all _ _ _ _ _ (c .before .loop .inv .3) (c .before .loop .inv .0) (omega (arith, c .loop-test .left, c .before .loop .inv .1))

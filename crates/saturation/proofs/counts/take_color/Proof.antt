@@ -6,10 +6,12 @@ use Rattle.saturation.proofs.counts.take_color.Statement.{statement}
 use Rattle.saturation.proofs.counts.take_color.Tie as tie
 
 returns : tie.Need-returns
-returns c = (none-taken _ _ _ (c .before .before .before .before .before .before .before .before .pre .1 .0) (c .before .before .before .before .before .before .before .before .pre .1 .1) (c .if1 .taken), c .before .before .before .before .before .before .before .before .pre .0)
+returns c = let at-entry = c .before .before .before .before .before .before .before .before in
+    (none-taken _ _ _ (at-entry .pre .1 .0) (at-entry .pre .1 .1) (c .if1 .taken), at-entry .pre .0)
 
 returns-2 : tie.Need-returns-2
-returns-2 c = let p = c .before .before .before .before .before .before .before .before .before .before .before .pre in (refl, take-idle _ _ _ _ _ _ _ _ _ _ (p .0) (p .1 .0) (p .1 .1) (c .before .before .before .if1 .left) (c .if2 .taken))
+returns-2 c = let at-if1 = c .before .before .before in let at-entry = at-if1 .before .before .before .before .before .before .before .before in
+    let p = at-entry .pre in (refl, take-idle _ _ _ _ _ _ _ _ _ _ (p .0) (p .1 .0) (p .1 .1) (at-if1 .if1 .left) (c .if2 .taken))
 
 note-color-requires : tie.Need-note-color-requires
 note-color-requires c κs =

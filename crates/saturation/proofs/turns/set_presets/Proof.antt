@@ -19,8 +19,9 @@ abbrev μ-loop : tie.MeasureT-loop
 
 take-color-requires : tie.Need-take-color-requires Inv-loop μ-loop
 take-color-requires c κs =
-    let i = c .before .before .before .before .before .loop .inv in
-    (i .4, (omega (arith, c .before .before .before .before .loop-test .taken, c .before .before .before .before .before .before .before .before .before .before .before .before .before .pre .1 .0, i .1), i .5 .bare _ (omega arith)))
+    let at-test = c .before .before .before .before in let at-loop = at-test .before in let at-entry = at-loop .before .before .before .before .before .before .before .before in
+    let i = at-loop .loop .inv in
+    (i .4, (omega (arith, at-test .loop-test .taken, at-entry .pre .1 .0, i .1), i .5 .bare _ (omega arith)))
 
 add-v : tie.Need-add-v Inv-loop μ-loop
 add-v c =
@@ -38,8 +39,9 @@ loop-again c =
 
 returns : tie.Need-returns Inv-loop μ-loop
 returns c =
+    let at-entry = c .before .before .before .before .before .before .before .before .before in
     let i = c .before .loop .inv in
-    (preset-all _ _ _ (i .5) (i .1 ∙ c .before .before .before .before .before .before .before .before .before .pre .1 .0) (c .loop-test .left), i .4)
+    (preset-all _ _ _ (i .5) (i .1 ∙ at-entry .pre .1 .0) (c .loop-test .left), i .4)
 
 pub set-presets-spec : {M : Type 1} → statement M
 set-presets-spec = tie.close (tie.spec Inv-loop μ-loop

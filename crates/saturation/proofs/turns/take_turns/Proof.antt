@@ -19,16 +19,19 @@ abbrev μ-loop : tie.MeasureT-loop
 μ-loop kind n ends starts entries colors₀ saturations₀ waiting₀ turns₀ colors saturations waiting turns = length colors₀ - turns
 
 loop-holds : tie.Need-loop-holds Inv-loop μ-loop
-loop-holds c = (omega arith, refl, refl, refl, c .before .before .before .before .before .before .pre, turns-none _ _ _)
+loop-holds c = let at-entry = c .before .before .before .before .before .before in
+    (omega arith, refl, refl, refl, at-entry .pre, turns-none _ _ _)
 
 loop-less : tie.Need-loop-less Inv-loop μ-loop
-loop-less c = omega (arith, c .before .before .before .before .before .before .before .before .before .before .loop-test .taken, c .before .before .before .before .before .before .before .before .before .before .before .loop .inv .1)
+loop-less c = let at-test = c .before .before .before .before .before .before .before .before .before .before in let at-loop = at-test .before in
+    omega (arith, at-test .loop-test .taken, at-loop .loop .inv .1)
 
 loop-again : tie.Need-loop-again Inv-loop μ-loop
 loop-again c =
-    let i = c .before .before .before .before .before .before .before .before .before .before .before .loop .inv in
-    let e = c .before .before .before .before .before .before .turn .ensures in
-    (omega (arith, c .before .before .before .before .before .before .before .before .before .before .loop-test .taken, i .1), search needs, search needs, search needs, e .1, turns-more _ _ _ _ _ _ (i .5) (omega (arith, c .before .before .before .before .before .before .before .before .before .before .loop-test .taken, i .1)) (turn-size _ _ _ _ _ (e .0) (i .1)))
+    let at-turn = c .before .before .before .before .before .before in let at-test = at-turn .before .before .before .before in let at-loop = at-test .before in
+    let i = at-loop .loop .inv in
+    let e = at-turn .turn .ensures in
+    (omega (arith, at-test .loop-test .taken, i .1), search needs, search needs, search needs, e .1, turns-more _ _ _ _ _ _ (i .5) (omega (arith, at-test .loop-test .taken, i .1)) (turn-size _ _ _ _ _ (e .0) (i .1)))
 
 returns : tie.Need-returns Inv-loop μ-loop
 returns c = let i = c .before .loop .inv in turns-all _ _ _ _ _ (i .5) (omega (arith, c .loop-test .left, i .1))

@@ -10,9 +10,10 @@ use Rattle.two_color.proofs.components.color_nodes.Tie as tie
 
 join-edges-requires : tie.Need-join-edges-requires
 join-edges-requires c κs =
-    let p = c .before .before .before .before .before .before .before .before .before .before .pre in
-    let size = c .before .before .before .before .start .kept .0 ∙ p .1 .0 in
-    (room-passed _ _ _ (p .0) size, joined-none _ (c .before .before .before .before .start .last .0) _ (λ v h. c .before .before .before .before .start .ensures v (omega (arith, c .before .before .before .before .start .kept .0))) size (p .1 .1))
+    let at-start = c .before .before .before .before in let at-entry = at-start .before .before .before .before .before .before in
+    let p = at-entry .pre in
+    let size = at-start .start .kept .0 ∙ p .1 .0 in
+    (room-passed _ _ _ (p .0) size, joined-none _ (at-start .start .last .0) _ (λ v h. at-start .start .ensures v (omega (arith, at-start .start .kept .0))) size (p .1 .1))
 
 returns : tie.Need-returns
 returns c = record {
@@ -23,13 +24,15 @@ returns c = record {
 
 write-sides-requires : tie.Need-write-sides-requires
 write-sides-requires c κs =
-    let p = c .before .before .before .before .before .before .before .before .before .before .before .before .before .before .before .before .before .before .before .pre in
-    (taken-fine _ _ _ _ _ (c .before .before .before .before .before .before .before .before .join-edges .ensures) (not-false _ (c .before .before .before .if1 .left)) .1 .forest, (omega (arith, p .0 .nodes, p .1 .0, c .before .before .before .before .before .before .before .before .join-edges .kept .1 .0, c .before .before .before .before .before .before .before .before .before .before .before .before .before .start .kept .0), omega (arith, p .0 .nodes, p .1 .2)))
+    let at-if1 = c .before .before .before in let at-join-edges = at-if1 .before .before .before .before .before in let at-start = at-join-edges .before .before .before .before .before in let at-entry = at-start .before .before .before .before .before .before in
+    let p = at-entry .pre in
+    (taken-fine _ _ _ _ _ (at-join-edges .join-edges .ensures) (not-false _ (at-if1 .if1 .left)) .1 .forest, (omega (arith, p .0 .nodes, p .1 .0, at-join-edges .join-edges .kept .1 .0, at-start .start .kept .0), omega (arith, p .0 .nodes, p .1 .2)))
 
 returns-2 : tie.Need-returns-2
 returns-2 c =
-    let p = c .before .before .before .before .before .before .before .before .before .before .before .before .before .before .before .before .before .before .before .before .before .before .pre in
-    let t = taken-fine _ _ _ _ _ (c .before .before .before .before .before .before .before .before .before .before .before .join-edges .ensures) (not-false _ (c .before .before .before .before .before .before .if1 .left)) in
+    let at-if1 = c .before .before .before .before .before .before in let at-join-edges = at-if1 .before .before .before .before .before in let at-entry = at-join-edges .before .before .before .before .before .before .before .before .before .before .before in
+    let p = at-entry .pre in
+    let t = taken-fine _ _ _ _ _ (at-join-edges .join-edges .ensures) (not-false _ (at-if1 .if1 .left)) in
     record {
       even = λ e. t .0;
       sided = λ e. colored-all _ _ _ _ (c .before .before .write-sides .ensures _ _ (t .1)) (omega (arith, p .0 .nodes, p .1 .2, c .before .before .write-sides .kept .1 .1 .1 .0));

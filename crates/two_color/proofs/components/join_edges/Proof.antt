@@ -26,20 +26,23 @@ loop-holds c = (omega arith, refl, c .before .before .before .pre .1, refl, refl
 
 join-requires : tie.Need-join-requires Inv-loop μ-loop
 unfolding firstEnd secondEnd
-join-requires c κs = let i = c .before .before .before .before .before .loop .inv in (i .2 .forest, rw (i .3) (passed-inside _ _ (c .before .before .before .before .before .before .before .before .before .pre .0) _ (c .before .before .before .before .loop-test .taken)))
+join-requires c κs = let at-test = c .before .before .before .before in let at-loop = at-test .before in let at-entry = at-loop .before .before .before .before in
+    let i = at-loop .loop .inv in (i .2 .forest, rw (i .3) (passed-inside _ _ (at-entry .pre .0) _ (at-test .loop-test .taken)))
 
 returns : tie.Need-returns Inv-loop μ-loop
 unfolding firstEnd secondEnd
 returns c =
-    let i = c .before .before .before .before .before .before .before .before .before .before .before .loop .inv in
-    taken-early _ _ _ _ _ (c .before .before .before .before .before .join .ensures .taken _ _ refl refl (i .2) (i .1)) _ (omega arith) (not-true _ (c .if1 .taken))
+    let at-join = c .before .before .before .before .before in let at-loop = at-join .before .before .before .before .before .before in
+    let i = at-loop .loop .inv in
+    taken-early _ _ _ _ _ (at-join .join .ensures .taken _ _ refl refl (i .2) (i .1)) _ (omega arith) (not-true _ (c .if1 .taken))
 
 loop-again : tie.Need-loop-again Inv-loop μ-loop
 unfolding firstEnd secondEnd
 loop-again c =
-    let i = c .before .before .before .before .before .before .before .before .before .before .before .loop .inv in
-    let t = taken-fine _ _ _ _ _ (c .before .before .before .before .before .join .ensures .taken _ _ refl refl (i .2) (i .1)) (not-false _ (c .if1 .left)) in
-    (omega arith, t .0, t .1, c .before .before .before .before .before .join .kept .0 ∙ i .3, c .before .before .before .before .before .join .kept .1 .0 ∙ i .4)
+    let at-join = c .before .before .before .before .before in let at-loop = at-join .before .before .before .before .before .before in
+    let i = at-loop .loop .inv in
+    let t = taken-fine _ _ _ _ _ (at-join .join .ensures .taken _ _ refl refl (i .2) (i .1)) (not-false _ (c .if1 .left)) in
+    (omega arith, t .0, t .1, at-join .join .kept .0 ∙ i .3, at-join .join .kept .1 .0 ∙ i .4)
 
 returns-2 : tie.Need-returns-2 Inv-loop μ-loop
 returns-2 c = let i = c .before .loop .inv in taken-all _ _ _ _ _ (omega arith) (i .1) (i .2)
