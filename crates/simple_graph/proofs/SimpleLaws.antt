@@ -2,7 +2,6 @@
 use Prim.Native.Nat.{ℕ, _+_, _*_, _≤_, _<_}
 use mathlib.Core.Path.{_≡_, refl, sym, _∙_}
 use mathlib.Core.List.{List, [], _∷_, _++_}
-use mathlib.Core.Logic.{_⊎_, inl, inr}
 use mathlib.Core.Bool.{true, false, true≢false, Bool}
 use native.Mathlib.Omega.{arith}
 use native.Mathlib.Numerals.{add-one}
@@ -16,8 +15,8 @@ use Rattle.graph.specs.Edges.{edgeCount, firstEnd, secondEnd, isLoop}
 use Rattle.vizing.specs.MisraGries.{hasLoop, hasDoubleEdge, simpleChecks}
 use mathlib.Core.Option.{Option, none, some}
 use Rattle.graph.specs.Report.{accepted, refused, number, reportOfChecked}
-use Rattle.graph.specs.Check.{Check, _gives_, firstRefusal, graphChecks, checkGraph, Passed}
-use Rattle.graph.proofs.CheckLaws.{passed, refused-first, passed-first, passed-both, first-refuses, first-passes, all-passed, answered-refused, answered-accepted, checked-refused, checked-accepted, graph-refused, graph-accepted}
+use Rattle.graph.specs.Check.{Check, _gives_, firstRefusal, graphChecks, checkGraph}
+use Rattle.graph.proofs.CheckLaws.{passed, refused-first, passed-first, first-refuses, first-passes, all-passed, answered-refused, answered-accepted, checked-refused, checked-accepted, graph-refused, graph-accepted}
 use Rattle.graph.specs.declared.Refusal.{Refusal}
 use Rattle.graph.specs.declared.Graph.{Graph}
 use Rattle.graph.specs.declared.Checked.{Checked}
@@ -47,6 +46,13 @@ pub no-loop-all : (ends : List ℕ) (k : ℕ) → hasLoop ends k ≡ false → k
 no-loop-all ends k e h b = let p : k ≡ edgeCount ends = omega arith in sym (rw p at e)
 
 -- ---- The graph checks and then those for loops and double edges: one law for each answer, and what the answer tells a caller.
+
+-- A check that passes wherever those before it do may be left out.
+pub left-out : (b : Bool) (k : ℕ) (cs ds : List Check) → (firstRefusal cs ≡ none → b ≡ false) → firstRefusal (cs ++ (b gives k) ∷ ds) ≡ firstRefusal (cs ++ ds)
+unfolding firstRefusal
+left-out b k [] ds h = simp (h refl)
+left-out b k ((true gives j) ∷ cs) ds h = refl
+left-out b k ((false gives j) ∷ cs) ds h = left-out b k cs ds h
 
 module _ (n : ℕ) (ends starts entries : List ℕ) where
   abbrev afterGraph : List Check
@@ -96,24 +102,15 @@ module _ (n : ℕ) (ends starts entries : List ℕ) where
   -- ---- what the answer tells, where both slices have room for every table
 
   module _ (c : Checked) (e : reportOfChecked c ≡ checkSimple n ends starts entries) (rows : 512 < length starts) (room : 8192 ≤ length entries) where
-    after-passed : Passed n ends → firstRefusal afterGraph ≡ firstRefusal (simpleChecks ends)
-    after-passed p = after-room (omega (arith, p .nodes)) (omega (arith, p .even, p .edges))
+    roomy : firstRefusal (graphChecks n ends ++ afterGraph) ≡ firstRefusal (graphChecks n ends ++ simpleChecks ends)
+    roomy =
+        left-out (leb (length starts) n) 5 (graphChecks n ends) _ (λ q. lt-leb (length starts) n (omega (arith, passed n ends q .nodes)))
+        ∙ left-out (ltb (length entries) (length ends)) 5 (graphChecks n ends) _ (λ q. le-ltb (length entries) (length ends) (omega (arith, passed n ends q .even, passed n ends q .edges)))
 
-    -- A refusal is a graph check's, or 6 or 7 after them.
-    pub simple-refused : (r : Refusal) → c ≡ C.Refused r → (firstRefusal (graphChecks n ends) ≡ some (number r)) ⊎ ((firstRefusal (graphChecks n ends) ≡ none) × (firstRefusal (simpleChecks ends) ≡ some (number r)))
+    pub simple-refused : (r : Refusal) → c ≡ C.Refused r → firstRefusal (graphChecks n ends ++ simpleChecks ends) ≡ some (number r)
     unfolding checkSimple
-    simple-refused r p = go (firstRefusal (graphChecks n ends)) refl
-      where
-        f : firstRefusal (graphChecks n ends ++ afterGraph) ≡ some (number r)
-        f = checked-refused (graphChecks n ends ++ afterGraph) (n, edgeCount ends) c r e p
+    simple-refused r p = sym roomy ∙ checked-refused (graphChecks n ends ++ afterGraph) (n, edgeCount ends) c r e p
 
-        go : (o : Option ℕ) → firstRefusal (graphChecks n ends) ≡ o → (firstRefusal (graphChecks n ends) ≡ some (number r)) ⊎ ((firstRefusal (graphChecks n ends) ≡ none) × (firstRefusal (simpleChecks ends) ≡ some (number r)))
-        go (some k) q = inl (q ∙ (sym (refused-first (graphChecks n ends) afterGraph k q) ∙ f))
-        go none q = inr (q, sym (passed-first (graphChecks n ends) afterGraph q ∙ after-passed (passed n ends q)) ∙ f)
-
-    pub simple-accepted : (g : Graph) → c ≡ C.Accepted g → (firstRefusal (graphChecks n ends) ≡ none) × (firstRefusal (simpleChecks ends) ≡ none) × (g .edges ≡ edgeCount ends)
+    pub simple-accepted : (g : Graph) → c ≡ C.Accepted g → (firstRefusal (graphChecks n ends ++ simpleChecks ends) ≡ none) × (g .edges ≡ edgeCount ends)
     unfolding checkSimple
-    simple-accepted g p =
-        let a = checked-accepted (graphChecks n ends ++ afterGraph) (n, edgeCount ends) c g e p in
-        let b = passed-both (graphChecks n ends) afterGraph (a .0) in
-        (b .0, sym (after-passed (passed n ends (b .0))) ∙ b .1, a .2)
+    simple-accepted g p = let a = checked-accepted (graphChecks n ends ++ afterGraph) (n, edgeCount ends) c g e p in (sym roomy ∙ a .0, a .2)
