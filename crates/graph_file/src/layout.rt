@@ -7,8 +7,8 @@ ghost use Rattle.graph_file.specs.File.{fields, afterNodes, fileOf};
 ghost use Rattle.graph_file.specs.Places.{shownFile};
 ghost use Rattle.graph_file.specs.declared.layout.GraphPlace.{GraphPlace};
 ghost use Rattle.graph_file.specs.declared.layout.FileLayout.the-variants.{Graph};
-use crate::fields::FieldAt;
 use crate::fields;
+use crate::fields::FieldAt;
 use crate::numbers;
 
 // The node count, where the ends start, the edge count, and which tags stood.

@@ -19,15 +19,17 @@ returns c =
 
 returns-2 : tie.Need-returns-2
 returns-2 c =
-    let l = c .before .before .before .before .layout-of .ensures in
-    let o = answer-short _ (c .before .before .before .before .before .before .before .args .ends .now) _ (l .0) _ (c .before .before .file .given .1) (l .1) (omega arith) in
-    (o .0, (o .1, file-reader _ _ (bytes-below (c .before .before .before .before .before .before)) _ _ o))
+    let at-layout-of = c .before .before .before .before in let at-6 = at-layout-of .before .before in let at-entry = at-6 .before in
+    let l = at-layout-of .layout-of .ensures in
+    let o = answer-short _ (at-entry .args .ends .now) _ (l .0) _ (c .before .before .file .given .1) (l .1) (omega arith) in
+    (o .0, (o .1, file-reader _ _ (bytes-below (at-6)) _ _ o))
 
 returns-3 : tie.Need-returns-3
 returns-3 c =
-    let l = c .before .before .before .before .before .before .before .before .before .layout-of .ensures in
-    let o = answer-read _ (c .before .before .before .before .before .before .before .before .before .before .before .before .args .ends .now) _ (l .0) _ (c .before .before .before .before .before .before .before .file .given .1) (l .1) (c .before .before .before .before .before .if1 .left) _ (c .before .before .copy-numbers .ensures) in
-    (o .0, (o .1, file-reader _ _ (bytes-below (c .before .before .before .before .before .before .before .before .before .before .before)) _ _ o))
+    let at-if1 = c .before .before .before .before .before in let at-file = at-if1 .before .before in let at-layout-of = at-file .before .before in let at-11 = at-layout-of .before .before in let at-entry = at-11 .before in
+    let l = at-layout-of .layout-of .ensures in
+    let o = answer-read _ (at-entry .args .ends .now) _ (l .0) _ (at-file .file .given .1) (l .1) (at-if1 .if1 .left) _ (c .before .before .copy-numbers .ensures) in
+    (o .0, (o .1, file-reader _ _ (bytes-below (at-11)) _ _ o))
 
 add-copy-numbers : tie.Need-add-copy-numbers
 add-copy-numbers c = omega (arith, c .before .before .before .before .layout-of .ensures .1 _ (c .before .before .file .given .1))
@@ -37,8 +39,9 @@ part-copy-numbers-end c = omega (arith, c .before .before .before .before .layou
 
 copy-numbers-requires : tie.Need-copy-numbers-requires
 copy-numbers-requires c κs =
-    let l = c .before .before .before .before .before .before .layout-of .ensures in
-    room _ (c .before .before .before .before .before .before .before .before .before .args .ends .now) _ (l .0) _ (c .before .before .before .before .file .given .1) (l .1) (c .before .before .if1 .left)
+    let at-file = c .before .before .before .before in let at-layout-of = at-file .before .before in let at-entry = at-layout-of .before .before .before in
+    let l = at-layout-of .layout-of .ensures in
+    room _ (at-entry .args .ends .now) _ (l .0) _ (at-file .file .given .1) (l .1) (c .before .before .if1 .left)
 
 pub read-graph-file-spec : {M : Type 1} → statement M
 read-graph-file-spec = tie.close (tie.spec

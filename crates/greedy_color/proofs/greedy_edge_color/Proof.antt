@@ -9,7 +9,8 @@ use Rattle.greedy_color.proofs.greedy_edge_color.Statement.{statement}
 use Rattle.greedy_color.proofs.greedy_edge_color.Tie as tie
 
 returns : tie.Need-returns
-returns c = let k = length (c .before .before .before .before .before .before .before .before .args .colors .now) in edges-without-presets _ _ k _ _ _ _ (take-replicate k 4096 65535 (omega arith)) (λ h e. e) (c .before .before .color .ensures .0) (c .before .before .color .ensures .1)
+returns c = let at-entry = c .before .before .before .before .before .before .before .before in
+    let k = length (at-entry .args .colors .now) in edges-without-presets _ _ k _ _ _ _ (take-replicate k 4096 65535 (omega arith)) (λ h e. e) (c .before .before .color .ensures .0) (c .before .before .color .ensures .1)
 
 returns-2 : tie.Need-returns-2
 returns-2 c = edges-without-presets _ _ 4096 _ _ _ _ refl (λ h e. omega (arith, h .edges)) (c .before .before .color2 .ensures .0) (c .before .before .color2 .ensures .1)

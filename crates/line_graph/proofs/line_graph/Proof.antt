@@ -8,7 +8,8 @@ returns : tie.Need-returns
 returns c = line-refused _ _ _ _ _ (c .before .before .before .check-graph .ensures) (c .before .refusal .given .1)
 
 list-pairs-requires : tie.Need-list-pairs-requires
-list-pairs-requires c κs = line-passed _ _ (c .before .before .before .before .before .before .args .list .now) _ _ (c .before .before .before .check-graph .ensures) (c .before .enum-told .given .1)
+list-pairs-requires c κs = let at-check-graph = c .before .before .before in let at-entry = at-check-graph .before .before .before in
+    line-passed _ _ (at-entry .args .list .now) _ _ (at-check-graph .check-graph .ensures) (c .before .enum-told .given .1)
 
 pub line-graph-spec : {M : Type 1} → statement M
 line-graph-spec = tie.close (tie.spec

@@ -10,16 +10,18 @@ use Rattle.misra_gries.proofs.color_simple.Statement.{statement}
 use Rattle.misra_gries.proofs.color_simple.Tie as tie
 
 run-requires : tie.Need-run-requires
-run-requires c κs = running-begin _ _ _ _ 294912 (c .before .before .before .before .before .before .before .pre .0) (c .before .before .before .before .before .before .before .pre .1 .0) refl
+run-requires c κs = let at-entry = c .before .before .before .before .before .before .before in
+    running-begin _ _ _ _ 294912 (at-entry .pre .0) (at-entry .pre .1 .0) refl
 
 slice-aggregate-copy-colors : tie.Need-slice-aggregate-copy-colors
 slice-aggregate-copy-colors c = sym (length-take-le _ _ (omega (arith, running-room _ _ _ _ _ _ _ _ _ (c .before .before .before .before .run .ensures))))
 
 returns : tie.Need-returns
 returns c =
-    let r = c .before .before .before .before .before .before .before .before .before .run .ensures in
+    let at-copy-colors = c .before .before .before in let at-run = at-copy-colors .before .before .before .before .before .before in let at-entry = at-run .before .before .before .before .before .before .before .before in
+    let r = at-run .run .ensures in
     let d = running-done _ _ _ _ _ _ _ _ _ r (omega arith) in
-    (c .days-of-tally .ensures ∙ d .1, c .before .before .before .copy-colors .ensures ∙ (copied-same _ _ (c .before .before .before .before .before .before .before .before .before .before .before .before .before .before .before .before .before .pre .1 .1 ∙ sym (length-take-le _ _ (running-room _ _ _ _ _ _ _ _ _ r))) ∙ d .0))
+    (c .days-of-tally .ensures ∙ d .1, at-copy-colors .copy-colors .ensures ∙ (copied-same _ _ (at-entry .pre .1 .1 ∙ sym (length-take-le _ _ (running-room _ _ _ _ _ _ _ _ _ r))) ∙ d .0))
 
 pub color-simple-spec : {M : Type 1} → statement M
 color-simple-spec = tie.close (tie.spec

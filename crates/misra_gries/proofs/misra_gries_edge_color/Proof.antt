@@ -7,29 +7,35 @@ use Rattle.misra_gries.proofs.misra_gries_edge_color.Statement.{stateme
 use Rattle.misra_gries.proofs.misra_gries_edge_color.Tie as tie
 
 returns : tie.Need-returns
-returns c = let o = refused-early _ _ _ _ _ _ (c .before .before .before .before .before .before .before .check-simple .ensures .0) refl refl _ (c .before .before .before .refusal .given .1) (omega (arith, c .before .number .ensures)) in (o .0, (o .1, vizing-coloring _ _ _ _ _ o))
+returns c = let at-refusal = c .before .before .before in let at-check-simple = at-refusal .before .before .before .before in
+    let o = refused-early _ _ _ _ _ _ (at-check-simple .check-simple .ensures .0) refl refl _ (at-refusal .refusal .given .1) (omega (arith, c .before .number .ensures)) in (o .0, (o .1, vizing-coloring _ _ _ _ _ o))
 
 returns-2 : tie.Need-returns-2
-returns-2 c = let o = refused-sized _ _ _ _ _ _ (c .before .before .before .before .before .before .before .before .check-simple .ensures .0) refl refl _ (c .before .before .before .before .refusal .given .1) (c .if2 .taken) in (o .0, (o .1, vizing-coloring _ _ _ _ _ o))
+returns-2 c = let at-refusal = c .before .before .before .before in let at-check-simple = at-refusal .before .before .before .before in
+    let o = refused-sized _ _ _ _ _ _ (at-check-simple .check-simple .ensures .0) refl refl _ (at-refusal .refusal .given .1) (c .if2 .taken) in (o .0, (o .1, vizing-coloring _ _ _ _ _ o))
 
 returns-3 : tie.Need-returns-3
-returns-3 c = let o = length-wrong _ _ _ _ _ _ (c .before .before .before .before .before .before .before .check-simple .ensures .0) refl refl _ (c .before .before .before .graph .given .1) (c .if3 .taken) in (o .0, (o .1, vizing-coloring _ _ _ _ _ o))
+returns-3 c = let at-graph = c .before .before .before in let at-check-simple = at-graph .before .before .before .before in
+    let o = length-wrong _ _ _ _ _ _ (at-check-simple .check-simple .ensures .0) refl refl _ (at-graph .graph .given .1) (c .if3 .taken) in (o .0, (o .1, vizing-coloring _ _ _ _ _ o))
 
 color-simple-requires : tie.Need-color-simple-requires
 color-simple-requires c κs =
-    let checked = c .before .before .before .before .before .before .before .before .before .before .check-simple .ensures in
-    let told = c .before .before .before .before .before .before .graph .given .1 in
-    let lent = c .before .before .before .before .before .before .before .before .before .before .before .before .before .before .before .args .colors .now in
+    let at-if3 = c .before .before .before in let at-graph = at-if3 .before .before .before in let at-check-simple = at-graph .before .before .before .before in let at-entry = at-check-simple .before .before .before .before .before in
+    let checked = at-check-simple .check-simple .ensures in
+    let told = at-graph .graph .given .1 in
+    let lent = at-entry .args .colors .now in
     let p = graph-yes _ _ lent _ _ _ (checked .0) refl refl _ told in
-    (simple-yes _ _ lent _ _ _ (checked .0) refl refl _ told, (checked .1 .1 .1 p (omega (arith, p .nodes)) (omega (arith, p .even, p .edges)), length-yes _ _ lent _ _ _ (checked .0) refl refl _ told (c .before .before .before .if3 .left)))
+    (simple-yes _ _ lent _ _ _ (checked .0) refl refl _ told, (checked .1 .1 .1 p (omega (arith, p .nodes)) (omega (arith, p .even, p .edges)), length-yes _ _ lent _ _ _ (checked .0) refl refl _ told (at-if3 .if3 .left)))
 
 returns-4 : tie.Need-returns-4
-returns-4 c = let o = refused-late _ _ _ _ _ _ (c .before .before .before .before .before .before .before .before .check-simple .ensures .0) refl refl _ (c .before .before .before .before .refusal .given .1) (omega (arith, c .before .before .number .ensures)) (c .if2 .left) in (o .0, (o .1, vizing-coloring _ _ _ _ _ o))
+returns-4 c = let at-refusal = c .before .before .before .before in let at-check-simple = at-refusal .before .before .before .before in
+    let o = refused-late _ _ _ _ _ _ (at-check-simple .check-simple .ensures .0) refl refl _ (at-refusal .refusal .given .1) (omega (arith, c .before .before .number .ensures)) (c .if2 .left) in (o .0, (o .1, vizing-coloring _ _ _ _ _ o))
 
 returns-5 : tie.Need-returns-5
 returns-5 c =
+    let at-if3 = c .before .before .before .before .before .before in let at-graph = at-if3 .before .before .before in let at-check-simple = at-graph .before .before .before .before in
     let r = c .before .before .color-simple .ensures in
-    let o = colored-yes _ _ _ _ _ _ (c .before .before .before .before .before .before .before .before .before .before .before .before .before .check-simple .ensures .0) refl refl _ (c .before .before .before .before .before .before .before .before .before .graph .given .1) (c .before .before .before .before .before .before .if3 .left) _ _ (r .0) (r .1) in
+    let o = colored-yes _ _ _ _ _ _ (at-check-simple .check-simple .ensures .0) refl refl _ (at-graph .graph .given .1) (at-if3 .if3 .left) _ _ (r .0) (r .1) in
     (o .0, (o .1, vizing-coloring _ _ _ _ _ o))
 
 pub misra-gries-edge-color-spec : {M : Type 1} → statement M

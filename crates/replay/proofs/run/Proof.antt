@@ -16,15 +16,17 @@ abbrev μ-loop : tie.MeasureT-loop
 
 loop-less : tie.Need-loop-less Inv-loop μ-loop
 loop-less c =
-    let read = c .before .before .before .before .before .before .before .before .before .before .before .before .before .before .before .before .before .before .before .before .before .before .before .before .before .before .before .before .before .before in
+    let at-30 = c .before .before .before .before .before .before .before .before .before .before .before .before .before .before .before .before .before .before .before .before .before .before .before .before .before .before .before .before .before .before in
+    let read = at-30 in
     omega (arith, read .read-line .ensures, read .before .before .before .before .before .before .before .if1 .taken)
 
 loop-again : tie.Need-loop-again Inv-loop μ-loop
 loop-again c =
-    let read = c .before .before .before .before .before .before .before .before .before .before .before .before .before .before .before .before .before .before .before .before .before .before .before .before .before .before .before .before .before .before in
+    let at-call = c .before .before .before .before .before .before .before .before .before in let at-30 = at-call .before .before .before .before .before .before .before .before .before .before .before .before .before .before .before .before .before .before .before .before .before in
+    let read = at-30 in
     let inv = read .before .before .before .before .before .before .before .before .before .loop .inv in
     let read-kept = read .read-line .kept in
-    let call-kept = c .before .before .before .before .before .before .before .before .before .call .kept in
+    let call-kept = at-call .call .kept in
     (omega arith, omega arith, omega arith, omega arith, omega arith, omega arith, omega arith, omega arith)
 
 pub run-spec : {M : Type 1} → statement M

@@ -22,7 +22,8 @@ loop-holds : tie.Need-loop-holds Inv-loop μ-loop
 loop-holds c = (omega arith, refl, λ cs m. edges-marked-begin _ (c .before .before .before .args .edges .now) _ cs m)
 
 loop-again : tie.Need-loop-again Inv-loop μ-loop
-loop-again c = (omega arith, c .before .before .mark .kept .0 ∙ c .before .before .before .before .before .before .before .loop .inv .1, λ cs m. edges-marked-next _ _ _ cs _ (c .before .before .before .before .before .before .before .loop .inv .2 cs m) _ _ (c .before .before .before .before .before .before .loop-test .taken) (c .before .before .before .color-of .ensures) (c .before .before .mark .ensures))
+loop-again c = let at-color-of = c .before .before .before in let at-test = at-color-of .before .before .before in let at-loop = at-test .before in
+    (omega arith, c .before .before .mark .kept .0 ∙ at-loop .loop .inv .1, λ cs m. edges-marked-next _ _ _ cs _ (at-loop .loop .inv .2 cs m) _ _ (at-test .loop-test .taken) (at-color-of .color-of .ensures) (c .before .before .mark .ensures))
 
 returns : tie.Need-returns Inv-loop μ-loop
 returns c = (λ cs m. edges-marked-end _ _ _ cs _ (c .before .loop .inv .2 cs m) (c .loop-test .left), c .before .loop .inv .1)

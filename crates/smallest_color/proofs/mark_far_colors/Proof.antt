@@ -28,14 +28,16 @@ returns c = let l = c .before .before .before .loop in (far-marked-end _ _ _ _ _
 
 loop-less : tie.Need-loop-less Inv-loop μ-loop
 loop-less c =
-    let s = step-edge _ _ _ _ _ (c .before .before .before .before .before .before .before .before .before .before .edge-at .ensures) (c .before .before .before .before .before .before .before .before .edge .given .1) in
+    let at-edge = c .before .before .before .before .before .before .before .before in let at-edge-at = at-edge .before .before in
+    let s = step-edge _ _ _ _ _ (at-edge-at .edge-at .ensures) (at-edge .edge .given .1) in
     omega (arith, s .0, s .2)
 
 loop-again : tie.Need-loop-again Inv-loop μ-loop
 loop-again c =
-    let l = c .before .before .before .before .before .before .before .before .before .before .before .loop in
+    let at-color-of = c .before .before .before in let at-far-end = at-color-of .before .before .before in let at-edge = at-far-end .before .before in let at-edge-at = at-edge .before .before in let at-loop = at-edge-at .before in
+    let l = at-loop .loop in
     let m = c .before .before .mark in
-    (far-marked-next _ _ _ _ _ (l .at) (l .inv .0) _ _ _ _ _ _ (c .before .before .before .before .before .before .before .before .before .before .edge-at .ensures) (c .before .before .before .before .before .before .before .before .edge .given .1) (c .before .before .before .before .before .before .far-end .ensures) (c .before .before .before .color-of .ensures) (m .ensures), m .kept .0 ∙ l .inv .1)
+    (far-marked-next _ _ _ _ _ (l .at) (l .inv .0) _ _ _ _ _ _ (at-edge-at .edge-at .ensures) (at-edge .edge .given .1) (at-far-end .far-end .ensures) (at-color-of .color-of .ensures) (m .ensures), m .kept .0 ∙ l .inv .1)
 
 pub mark-far-colors-spec : {M : Type 1} → statement M
 mark-far-colors-spec = tie.close (tie.spec Inv-loop μ-loop

@@ -18,18 +18,20 @@ abbrev μ-loop : tie.MeasureT-loop
 
 write-pairs-of-requires : tie.Need-write-pairs-of-requires Inv-loop μ-loop
 write-pairs-of-requires c κs =
-    let s = c .before .before .before .before .before .before .before in
-    let l = c .before .before .before .loop in
+    let at-loop = c .before .before .before in let at-7 = at-loop .before .before .before .before in
+    let s = at-7 in
+    let l = at-loop .loop in
     let e = c .before .edges-at in
     omega (arith, l .inv .1, below-room _ _ (s .args .list .now) (l .list) (l .v) (s .args .n) (l .place) (l .inv .2) (e .result .now) (e .ensures .0) (c .before .before .loop-test .taken) (s .pre .1))
 
 loop-again : tie.Need-loop-again Inv-loop μ-loop
 loop-again c =
-    let s = c .before .before .before .before .before .before .before .before .before .before in
-    let l = c .before .before .before .before .before .before .loop in
-    let e = c .before .before .before .before .edges-at in
+    let at-edges-at = c .before .before .before .before in let at-test = at-edges-at .before in let at-loop = at-test .before in let at-10 = at-loop .before .before .before .before in
+    let s = at-10 in
+    let l = at-loop .loop in
+    let e = at-edges-at .edges-at in
     let w = c .before .before .write-pairs-of in
-    (omega arith, w .kept .1 .0 ∙ l .inv .1, below-next _ _ (s .args .list .now) (l .list) (l .v) (s .args .n) (l .place) (l .inv .2) (e .result .now) _ _ (e .ensures .0) (c .before .before .before .before .before .loop-test .taken) (s .pre .1) (w .ensures .1) (w .ensures .0))
+    (omega arith, w .kept .1 .0 ∙ l .inv .1, below-next _ _ (s .args .list .now) (l .list) (l .v) (s .args .n) (l .place) (l .inv .2) (e .result .now) _ _ (e .ensures .0) (at-test .loop-test .taken) (s .pre .1) (w .ensures .1) (w .ensures .0))
 
 returns : tie.Need-returns Inv-loop μ-loop
 returns c = let l = c .before .loop in below-end _ _ _ _ (l .v) _ (l .place) (l .inv .2) (l .inv .0) (omega arith)

@@ -17,16 +17,18 @@ abbrev μ-loop : tie.MeasureT-loop
 
 write-pairs-with-requires : tie.Need-write-pairs-with-requires Inv-loop μ-loop
 write-pairs-with-requires c κs =
-    let s = c .before .before .before .before .before .before .before in
-    let l = c .before .before .before .before .loop in
-    omega (arith, l .inv .1, of-room (s .args .edges .now) (s .args .list .now) (l .list) (s .args .at) (l .i) (l .place) (l .inv .2) (c .before .before .before .loop-test .taken) (s .pre))
+    let at-test = c .before .before .before in let at-loop = at-test .before in let at-7 = at-loop .before .before .before in
+    let s = at-7 in
+    let l = at-loop .loop in
+    omega (arith, l .inv .1, of-room (s .args .edges .now) (s .args .list .now) (l .list) (s .args .at) (l .i) (l .place) (l .inv .2) (at-test .loop-test .taken) (s .pre))
 
 loop-again : tie.Need-loop-again Inv-loop μ-loop
 loop-again c =
-    let s = c .before .before .before .before .before .before .before .before .before .before in
-    let l = c .before .before .before .before .before .before .before .loop in
+    let at-test = c .before .before .before .before .before .before in let at-loop = at-test .before in let at-10 = at-loop .before .before .before in
+    let s = at-10 in
+    let l = at-loop .loop in
     let w = c .before .before .write-pairs-with in
-    (omega arith, w .kept .1 .1 .0 ∙ l .inv .1, of-next (s .args .edges .now) (s .args .list .now) (l .list) (s .args .at) (l .i) (l .place) (l .inv .2) _ _ (c .before .before .before .before .before .before .loop-test .taken) (s .pre) (w .ensures .1) (w .ensures .0))
+    (omega arith, w .kept .1 .1 .0 ∙ l .inv .1, of-next (s .args .edges .now) (s .args .list .now) (l .list) (s .args .at) (l .i) (l .place) (l .inv .2) _ _ (at-test .loop-test .taken) (s .pre) (w .ensures .1) (w .ensures .0))
 
 returns : tie.Need-returns Inv-loop μ-loop
 returns c = let l = c .before .loop in of-end _ _ _ _ (l .i) _ (l .inv .2) (l .inv .0) (omega arith)

@@ -27,7 +27,8 @@ returns : tie.Need-returns Inv-loop μ-loop
 returns c = line-all _ _ _ _ _ _ _ _ (c .loop-test .left) (c .before .loop .inv .1) (c .before .loop .inv .0)
 
 put-edge-requires : tie.Need-put-edge-requires Inv-loop μ-loop
-put-edge-requires c κs = line-room _ _ _ _ _ _ _ _ (c .before .loop-test .taken) (c .before .before .before .before .before .before .pre .1) (c .before .before .loop .inv .0)
+put-edge-requires c κs = let at-entry = c .before .before .before .before .before .before in
+    line-room _ _ _ _ _ _ _ _ (c .before .loop-test .taken) (at-entry .pre .1) (c .before .before .loop .inv .0)
 
 pub put-edges-spec : {M : Type 1} → statement M
 put-edges-spec = tie.close (tie.spec Inv-loop μ-loop

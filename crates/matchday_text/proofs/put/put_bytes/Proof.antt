@@ -17,12 +17,14 @@ abbrev μ-loop : tie.MeasureT-loop
 μ-loop text₀ at bytes next₀ i₀ text next i = length bytes - i
 
 put-requires : tie.Need-put-requires Inv-loop μ-loop
-put-requires c κs = let l = c .before .before .before .loop in put-byte-room _ _ _ _ _ _ _ (c .before .before .loop-test .taken) (c .before .before .before .before .before .before .pre) (l .inv .2)
+put-requires c κs = let at-loop = c .before .before .before in let at-entry = at-loop .before .before .before in
+    let l = at-loop .loop in put-byte-room _ _ _ _ _ _ _ (c .before .before .loop-test .taken) (at-entry .pre) (l .inv .2)
 
 loop-again : tie.Need-loop-again Inv-loop μ-loop
 loop-again c =
-    let l = c .before .before .before .before .before .before .loop in
-    (omega arith, c .before .before .put .kept .0 ∙ l .inv .1, put-byte-more _ _ _ _ _ _ _ _ (c .before .before .before .before .before .loop-test .taken) (l .inv .2) (c .before .before .put .ensures))
+    let at-test = c .before .before .before .before .before in let at-loop = at-test .before in
+    let l = at-loop .loop in
+    (omega arith, c .before .before .put .kept .0 ∙ l .inv .1, put-byte-more _ _ _ _ _ _ _ _ (at-test .loop-test .taken) (l .inv .2) (c .before .before .put .ensures))
 
 returns : tie.Need-returns Inv-loop μ-loop
 returns c = put-byte-all _ _ _ _ _ _ (c .loop-test .left) (c .before .loop .inv .0) (c .before .loop .inv .2)

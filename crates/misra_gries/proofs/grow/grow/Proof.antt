@@ -52,7 +52,8 @@ loop-again c =
 
 -- There is room for the next edge.
 returns-2 : tie.Need-returns-2 Inv-loop μ-loop
-returns-2 c = let z : ⊥ = omega (arith, c .before .loop .inv .0, c .before .before .before .before .before .before .before .before .pre .1, growing-few _ _ _ _ _ _ _ _ _ (c .before .before .before .before .before .before .before .before .pre .0) _ _ _ _ (c .before .loop .inv .2)) in absurd z
+returns-2 c = let at-entry = c .before .before .before .before .before .before .before .before in
+    let z : ⊥ = omega (arith, c .before .loop .inv .0, at-entry .pre .1, growing-few _ _ _ _ _ _ _ _ _ (at-entry .pre .0) _ _ _ _ (c .before .loop .inv .2)) in absurd z
 
 pub grow-spec : {M : Type 1} → statement M
 grow-spec = tie.close (tie.spec Inv-loop μ-loop

@@ -21,10 +21,12 @@ step-kept-requires : tie.Need-step-kept-requires Inv-loop μ-loop
 step-kept-requires c κs = let i = c .before .before .before .before .loop .inv .0 in (running-ready _ _ _ _ _ _ _ _ _ i (c .before .before .before .loop-test .taken), omega (arith, running-edges _ _ _ _ _ _ _ _ _ i, i .bound, i .admitted .edges))
 
 loop-again : tie.Need-loop-again Inv-loop μ-loop
-loop-again c = (running-more _ _ _ _ _ _ _ _ _ (c .before .before .before .before .before .before .before .before .before .before .before .loop .inv .0) _ _ _ _ (c .before .before .before .before .before .before .before .before .before .before .loop-test .taken) (c .before .before .before .before .before .before .step-kept .ensures), c .before .before .before .before .before .before .step-kept .kept .1 .1 .1 .1 .1 .0 ∙ c .before .before .before .before .before .before .before .before .before .before .before .loop .inv .1, c .before .before .before .before .before .before .step-kept .kept .1 .1 .1 .1 .1 .1 .0 ∙ c .before .before .before .before .before .before .before .before .before .before .before .loop .inv .2, c .before .before .before .before .before .before .step-kept .kept .1 .1 .1 .1 .1 .1 .1 .0 ∙ c .before .before .before .before .before .before .before .before .before .before .before .loop .inv .3)
+loop-again c = let at-step-kept = c .before .before .before .before .before .before in let at-test = at-step-kept .before .before .before .before in let at-loop = at-test .before in
+    (running-more _ _ _ _ _ _ _ _ _ (at-loop .loop .inv .0) _ _ _ _ (at-test .loop-test .taken) (at-step-kept .step-kept .ensures), at-step-kept .step-kept .kept .1 .1 .1 .1 .1 .0 ∙ at-loop .loop .inv .1, at-step-kept .step-kept .kept .1 .1 .1 .1 .1 .1 .0 ∙ at-loop .loop .inv .2, at-step-kept .step-kept .kept .1 .1 .1 .1 .1 .1 .1 .0 ∙ at-loop .loop .inv .3)
 
 returns : tie.Need-returns Inv-loop μ-loop
-returns c = let i = c .before .loop .inv .0 in let e : c .before .loop .k ≡ edgeCount (c .before .before .before .before .before .before .before .before .args .ends .now) = omega (arith, i .bound, c .loop-test .left) in rw e at i
+returns c = let at-entry = c .before .before .before .before .before .before .before .before in
+    let i = c .before .loop .inv .0 in let e : c .before .loop .k ≡ edgeCount (at-entry .args .ends .now) = omega (arith, i .bound, c .loop-test .left) in rw e at i
 
 pub run-spec : {M : Type 1} → statement M
 run-spec = tie.close (tie.spec Inv-loop μ-loop

@@ -15,7 +15,8 @@ use Rattle.misra_gries.proofs.steps.exchange_edges.Tie as tie
 followed : (f : tie.After-follow)
     → Followed (f .before .before .before .before .before .before .args .ends .now) (f .before .before .before .before .before .before .args .table .now) (f .before .before .before .before .before .before .args .n) (f .before .before .before .before .before .before .args .node .0) (f .before .before .before .before .before .before .args .d .0) (f .before .before .before .before .before .before .args .c .0) 512
     (f .follow .last .1 .1 .1 .1 .1 .0 ++ drop (f .before .before .before .before .before .before .args .n) (replicate 512 0)) (f .follow .result)
-followed f = path-followed _ _ _ _ _ _ (replicate 512 0) (f .follow .last .1 .1 .1 .1 .1 .0) _ (f .before .before .before .before .before .before .pre .nodes) refl (f .follow .kept .1 .1 .1 .1 .1 .0) (path-written _ _ _ _ _ _ _ _ _ (f .follow .ensures))
+followed f = let at-entry = f .before .before .before .before .before .before in
+    path-followed _ _ _ _ _ _ (replicate 512 0) (f .follow .last .1 .1 .1 .1 .1 .0) _ (at-entry .pre .nodes) refl (f .follow .kept .1 .1 .1 .1 .1 .0) (path-written _ _ _ _ _ _ _ _ _ (f .follow .ensures))
 
 -- There is room for the colours.
 room : (s : tie.After-swap-colors) → s .before .before .before .before .before .follow .result ≤ length (s .swap-colors .last .1 .1 .1 .1 .0)
@@ -23,8 +24,9 @@ room s = omega (arith, s .swap-colors .kept .1 .1 .1 .1 .0, followed (s .before 
 
 returns : tie.Need-returns
 returns c =
-    let f = followed (c .before .before .before .before .before .before .before .before .before .before .before .before .before .before .before) in
-    path-exchanged _ _ _ _ _ _ _ (c .before .before .before .before .before .before .before .before .before .before .before .before .before .before .before .before .before .before .before .before .before .pre) _ (replicate 512 0) _ _ _ _ (f .path) (f .filled) (f .short) (c .before .before .before .before .before .before .before .before .before .before .swap-colors .ensures) (c .before .before .before .before .repaint .ensures)
+    let at-repaint = c .before .before .before .before in let at-swap-colors = at-repaint .before .before .before .before .before .before in let at-15 = at-swap-colors .before .before .before .before .before in let at-entry = at-15 .before .before .before .before .before .before in
+    let f = followed (at-15) in
+    path-exchanged _ _ _ _ _ _ _ (at-entry .pre) _ (replicate 512 0) _ _ _ _ (f .path) (f .filled) (f .short) (at-swap-colors .swap-colors .ensures) (at-repaint .repaint .ensures)
 
 pub exchange-edges-spec : {M : Type 1} → statement M
 exchange-edges-spec = tie.close (tie.spec

@@ -20,8 +20,9 @@ room s = omega (arith, s .swap-colors .kept .1 .1 .1 .1 .0, followed (s .before 
 
 returns-3 : tie.Need-returns-3
 returns-3 c =
-    let f = followed (c .before .before .before .before .before .before .before .before .before .before .before .before .before .before) in
-    path-exchanged _ _ _ _ _ _ _ (c .before .before .before .before .before .before .before .before .before .before .before .before .before .before .before .before .before .before .before .before .before .before .before .pre) _ (replicate 32 0) _ _ _ _ (f .path) (f .filled) (f .short) (c .before .before .before .before .before .before .before .before .before .before .swap-colors .ensures) (c .before .before .before .before .repaint .ensures)
+    let at-repaint = c .before .before .before .before in let at-swap-colors = at-repaint .before .before .before .before .before .before in let at-14 = at-swap-colors .before .before .before .before in let at-entry = at-14 .before .before .before .before .before .before .before .before .before in
+    let f = followed (at-14) in
+    path-exchanged _ _ _ _ _ _ _ (at-entry .pre) _ (replicate 32 0) _ _ _ _ (f .path) (f .filled) (f .short) (at-swap-colors .swap-colors .ensures) (at-repaint .repaint .ensures)
 
 pub exchange-few-spec : {M : Type 1} → statement M
 exchange-few-spec = tie.close (tie.spec

@@ -5,7 +5,8 @@ use Rattle.misra_gries.proofs.steps.exchange_path.Statement.{statement}
 use Rattle.misra_gries.proofs.steps.exchange_path.Tie as tie
 
 returns : tie.Need-returns
-returns c = path-empty _ _ _ _ _ _ _ (c .before .before .before .before .before .before .pre) _ (c .before .is-free .ensures) (c .if1 .taken)
+returns c = let at-entry = c .before .before .before .before .before .before in
+    path-empty _ _ _ _ _ _ _ (at-entry .pre) _ (c .before .is-free .ensures) (c .if1 .taken)
 
 pub exchange-path-spec : {M : Type 1} → statement M
 exchange-path-spec = tie.close (tie.spec

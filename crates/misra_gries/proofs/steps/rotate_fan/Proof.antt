@@ -5,10 +5,12 @@ use Rattle.misra_gries.proofs.steps.rotate_fan.Statement.{statement}
 use Rattle.misra_gries.proofs.steps.rotate_fan.Tie as tie
 
 returns : tie.Need-returns
-returns c = fan-of-one _ _ _ _ _ _ (c .before .before .before .before .before .before .before .before .before .before .before .before .before .pre) (c .before .before .before .before .before .before .before .before .if1 .taken) _ _ (c .before .before .before .before .repaint .ensures)
+returns c = let at-repaint = c .before .before .before .before in let at-if1 = at-repaint .before .before .before .before in let at-entry = at-if1 .before .before .before .before .before in
+    fan-of-one _ _ _ _ _ _ (at-entry .pre) (at-if1 .if1 .taken) _ _ (at-repaint .repaint .ensures)
 
 rotate-places-requires : tie.Need-rotate-places-requires
-rotate-places-requires c κs = let p = c .before .before .before .before .before .before .before .before .before .pre in record { tabled = p .tabled; allowed = p .allowed; some = p .some; fits = c .before .before .before .if2 .taken }
+rotate-places-requires c κs = let at-if2 = c .before .before .before in let at-entry = at-if2 .before .before .before .before .before .before in
+    let p = at-entry .pre in record { tabled = p .tabled; allowed = p .allowed; some = p .some; fits = at-if2 .if2 .taken }
 
 pub rotate-fan-spec : {M : Type 1} → statement M
 rotate-fan-spec = tie.close (tie.spec

@@ -5,10 +5,12 @@ use Rattle.misra_gries.proofs.steps.rotate_places.Statement.{statement}
 use Rattle.misra_gries.proofs.steps.rotate_places.Tie as tie
 
 slice-aggregate-repaint : tie.Need-slice-aggregate-repaint
-slice-aggregate-repaint c = let p = c .before .before .before .before .before .before .before .before .before .before .before .before .before .pre in rotated-length _ _ _ _ _ _ p _ _ (c .before .before .before .before .before .shift-colors .ensures) (p .fits)
+slice-aggregate-repaint c = let at-shift-colors = c .before .before .before .before .before in let at-entry = at-shift-colors .before .before .before .before .before .before .before .before in
+    let p = at-entry .pre in rotated-length _ _ _ _ _ _ p _ _ (at-shift-colors .shift-colors .ensures) (p .fits)
 
 returns : tie.Need-returns
-returns c = let p = c .before .before .before .before .before .before .before .before .before .before .before .before .before .before .before .before .before .before .pre in fan-rotated _ _ _ _ _ _ p _ _ (c .before .before .before .before .before .before .before .before .before .before .shift-colors .ensures) (p .fits) _ _ (c .before .before .before .before .repaint .ensures)
+returns c = let at-repaint = c .before .before .before .before in let at-shift-colors = at-repaint .before .before .before .before .before .before in let at-entry = at-shift-colors .before .before .before .before .before .before .before .before in
+    let p = at-entry .pre in fan-rotated _ _ _ _ _ _ p _ _ (at-shift-colors .shift-colors .ensures) (p .fits) _ _ (at-repaint .repaint .ensures)
 
 pub rotate-places-spec : {M : Type 1} → statement M
 rotate-places-spec = tie.close (tie.spec

@@ -23,7 +23,8 @@ abbrev entry : tie.After-places-to → tie.Start
 entry p = far p .before .before .before .before .before .before
 
 exchange-path-requires : tie.Need-exchange-path-requires
-exchange-path-requires c κs = turn-exchanging _ _ _ _ _ _ _ _ (c .before .before .before .before .before .before .before .before .before .before .before .before .pre) _ _ _ (c .before .before .before .before .before .before .far-end .ensures) (c .before .before .before .before .smallest-free .ensures) (c .before .before .smallest-free2 .ensures)
+exchange-path-requires c κs = let at-smallest-free = c .before .before .before .before in let at-far-end = at-smallest-free .before .before in let at-entry = at-far-end .before .before .before .before .before .before in
+    turn-exchanging _ _ _ _ _ _ _ _ (at-entry .pre) _ _ _ (at-far-end .far-end .ensures) (at-smallest-free .smallest-free .ensures) (c .before .before .smallest-free2 .ensures)
 
 slice-aggregate-rotate-fan : tie.Need-slice-aggregate-rotate-fan
 slice-aggregate-rotate-fan c = let p = c .before .before .before in turn-count _ _ _ _ _ _ _ _ (entry p .pre) _ _ _ (far p .far-end .ensures) (c-free p .smallest-free .ensures) (d-free p .smallest-free2 .ensures) _ _ _ (exchange p .exchange-path .ensures) _ (p .places-to .ensures)
@@ -32,10 +33,12 @@ rotate-fan-requires : tie.Need-rotate-fan-requires
 rotate-fan-requires c κs = let p = c .before .before .before in turn-rotating _ _ _ _ _ _ _ _ (entry p .pre) _ _ _ (far p .far-end .ensures) (c-free p .smallest-free .ensures) (d-free p .smallest-free2 .ensures) _ _ _ (exchange p .exchange-path .ensures) _ (p .places-to .ensures)
 
 returns : tie.Need-returns
-returns c = let p = c .before .before .before .before .before .before .before .before .before in turned-alone _ _ _ _ _ _ _ _ (entry p .pre) _ _ _ (far p .far-end .ensures) (c-free p .smallest-free .ensures) (d-free p .smallest-free2 .ensures) _ _ _ (exchange p .exchange-path .ensures) _ (p .places-to .ensures) _ _ (c .before .before .before .before .before .rotate-fan .ensures) (c .if1 .taken)
+returns c = let at-rotate-fan = c .before .before .before .before .before in let at-9 = at-rotate-fan .before .before .before .before in
+    let p = at-9 in turned-alone _ _ _ _ _ _ _ _ (entry p .pre) _ _ _ (far p .far-end .ensures) (c-free p .smallest-free .ensures) (d-free p .smallest-free2 .ensures) _ _ _ (exchange p .exchange-path .ensures) _ (p .places-to .ensures) _ _ (at-rotate-fan .rotate-fan .ensures) (c .if1 .taken)
 
 returns-2 : tie.Need-returns-2
-returns-2 c = let p = c .before .before .before .before .before .before .before .before .before in turned-along _ _ _ _ _ _ _ _ (entry p .pre) _ _ _ (far p .far-end .ensures) (c-free p .smallest-free .ensures) (d-free p .smallest-free2 .ensures) _ _ _ (exchange p .exchange-path .ensures) _ (p .places-to .ensures) _ _ (c .before .before .before .before .before .rotate-fan .ensures) (c .if1 .left)
+returns-2 c = let at-rotate-fan = c .before .before .before .before .before in let at-9 = at-rotate-fan .before .before .before .before in
+    let p = at-9 in turned-along _ _ _ _ _ _ _ _ (entry p .pre) _ _ _ (far p .far-end .ensures) (c-free p .smallest-free .ensures) (d-free p .smallest-free2 .ensures) _ _ _ (exchange p .exchange-path .ensures) _ (p .places-to .ensures) _ _ (at-rotate-fan .rotate-fan .ensures) (c .if1 .left)
 
 pub turn-spec : {M : Type 1} → statement M
 turn-spec = tie.close (tie.spec

@@ -24,9 +24,10 @@ returns c =
 
 loop-again : tie.Need-loop-again Inv-loop μ-loop
 loop-again c =
-    let loop-place = c .before .before .before .before .before .before in (
+    let at-edge-of-color = c .before .before .before .before in let at-test = at-edge-of-color .before in let at-6 = at-test .before in
+    let loop-place = at-6 in (
       search needs,
-      follow-edge _ _ _ _ _ _ _ _ _ _ (loop-place .loop .inv .1) (omega (arith, loop-place .loop .inv .0, c .before .before .before .before .before .loop-test .taken)) _ (c .before .before .before .before .edge-of-color .ensures) _ _ (c .before .before .edge .given .1) (c .far-end .ensures),
+      follow-edge _ _ _ _ _ _ _ _ _ _ (loop-place .loop .inv .1) (omega (arith, loop-place .loop .inv .0, at-test .loop-test .taken)) _ (at-edge-of-color .edge-of-color .ensures) _ _ (c .before .before .edge .given .1) (c .far-end .ensures),
     )
 
 returns-2 : tie.Need-returns-2 Inv-loop μ-loop

@@ -17,7 +17,8 @@ abbrev μ-loop : tie.MeasureT-loop
 
 loop-less : tie.Need-loop-less Inv-loop μ-loop
 loop-less c =
-    let after-put = c .before .before .before .before .before .before .before in
+    let at-7 = c .before .before .before .before .before .before .before in
+    let after-put = at-7 in
     let after-edge = after-put .before .before .before in
     let edge = step-edge _ _ _ _ _ (after-edge .before .before .edge-at .ensures) (after-edge .edge .given .1) in
     omega arith

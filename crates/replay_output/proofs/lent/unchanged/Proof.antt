@@ -23,8 +23,9 @@ returns c =
 
 loop-again : tie.Need-loop-again Inv-loop μ-loop
 loop-again c =
-    let l = c .before .before .before .before .before .before .args .list .now in
-    let at = c .before .before .before .before .loop in
+    let at-loop = c .before .before .before .before in let at-entry = at-loop .before .before in
+    let l = at-entry .args .list .now in
+    let at = at-loop .loop in
     (search needs, lent-more numberAt l (at .i) (at .inv .1) (c .if1 .left ∙ c .before .number-at .ensures))
 
 returns-2 : tie.Need-returns-2 Inv-loop μ-loop

@@ -15,7 +15,8 @@ abbrev μ-loop : tie.MeasureT-loop
 μ-loop text₀ waiting list end₀ i₀ text end i = length list - i
 
 cast-put-number : tie.Need-cast-put-number Inv-loop μ-loop
-cast-put-number c = omega (arith, c .shared-slice-known2 .given (c .before .before .before .before .before .before .before .loop .i))
+cast-put-number c = let at-loop = c .before .before .before .before .before .before .before in
+    omega (arith, c .shared-slice-known2 .given (at-loop .loop .i))
 
 pub put-numbers-spec : {M : Type 1} → statement M
 put-numbers-spec = tie.close (tie.spec Inv-loop μ-loop
