@@ -1,5 +1,6 @@
--- How a report is handed to C: a number, and a value behind a pointer.
+-- How a report is handed to C: a number, and values behind pointers.
 use Prim.Native.Nat.{ℕ}
+use mathlib.Core.Path.{_≡_}
 use Rattle.graph.specs.Report.{Report, accepted, refused}
 
 -- What a call returns to C: 0 where it accepted, or the refusal's number, which is never 0.
@@ -7,25 +8,17 @@ abbrev pub code : {A : Type 0} → Report A → ℕ
 code (accepted values) = 0
 code (refused k) = k
 
--- A report is handed back through a pointer, which is unchanged on a refusal: what it points to afterwards, given what it pointed to before.
-abbrev pub valueOr : ℕ → Report ℕ → ℕ
-valueOr before (accepted value) = value
+-- A report is handed back through pointers, which are unchanged on a refusal: what they point to afterwards, given what they pointed to before.
+abbrev pub valueOr : {A : Type 0} → A → Report A → A
+valueOr before (accepted values) = values
 valueOr before (refused k) = before
 
--- The same where a report has several values, each behind a pointer of its own.
-abbrev pub partOr : {A : Type 0} → (A → ℕ) → ℕ → Report A → ℕ
-partOr part before (accepted values) = part values
-partOr part before (refused k) = before
+-- What C is told of a report: the number r, and what the pointers hold, before and after.
+pub record Told {A : Type 0} (report : Report A) (before : A) (r : ℕ) (after : A) : Type 0 where
+  pub number-is : r ≡ code report
+  pub values-are : after ≡ valueOr before report
 
--- What a reading reports, n, m and which tags stood, one by one.
-abbrev pub Read : Type 0
-Read = ℕ × ℕ × ℕ
-
-abbrev pub nodesRead : Read → ℕ
-nodesRead values = values .0
-
-abbrev pub edgesRead : Read → ℕ
-edgesRead values = values .1
-
-abbrev pub tagsRead : Read → ℕ
-tagsRead values = values .2
+-- What C is told of a call: its report, and what the lent slices hold.
+pub record Answered {A B : Type 0} (report : Report A) (written : B) (before : A) (r : ℕ) (after : A) (lent : B) : Type 0 where
+  pub told : Told report before r after
+  pub slices-are : lent ≡ written

@@ -1,10 +1,9 @@
 // How an answer is handed to C: a number, 0 where the call accepted, and the report behind a pointer, which is unchanged on a refusal.
 // The strategies by number, too.
-ghost use mathlib.Core.Path.{_≡_};
 ghost use Rattle.graph.specs.Report.{reportOfIncidence, reportOfColoring};
 ghost use Rattle.line_graph.specs.LineReport.{reportOfLineList};
 ghost use Rattle.graph_file.specs.Report.{reportOfFile};
-ghost use Rattle.c_answer.specs.Answer.{code, valueOr, partOr, nodesRead, edgesRead, tagsRead};
+ghost use Rattle.c_answer.specs.Answer.{Told};
 use graph::Coloring;
 use graph::IncidenceAnswer;
 use graph_file::FileAnswer;
@@ -17,8 +16,7 @@ pub use strategy::strategy_of;
 pub use strategy::unknown_strategy;
 
 pub fn answer_coloring(coloring: Coloring, days: &mut usize) -> u32
-    ensures answer { λ r. ⌜ r ≡ code (reportOfColoring coloring) ⌝ }
-    ensures days { λ _. ⌜ now (days .exit) ≡ valueOr (now (days .entry)) (reportOfColoring coloring) ⌝ }
+    ensures told { λ r. ⌜ Told (reportOfColoring coloring) (now (days .entry)) r (now (days .exit)) ⌝ }
 {
     match coloring {
         Coloring::Accepted { days: counted } => {
@@ -30,8 +28,7 @@ pub fn answer_coloring(coloring: Coloring, days: &mut usize) -> u32
 }
 
 pub fn answer_incidence(incidence: IncidenceAnswer, total: &mut usize) -> u32
-    ensures answer { λ r. ⌜ r ≡ code (reportOfIncidence incidence) ⌝ }
-    ensures total { λ _. ⌜ now (total .exit) ≡ valueOr (now (total .entry)) (reportOfIncidence incidence) ⌝ }
+    ensures told { λ r. ⌜ Told (reportOfIncidence incidence) (now (total .entry)) r (now (total .exit)) ⌝ }
 {
     match incidence {
         IncidenceAnswer::Accepted { total: counted } => {
@@ -43,8 +40,7 @@ pub fn answer_incidence(incidence: IncidenceAnswer, total: &mut usize) -> u32
 }
 
 pub fn answer_line_list(list: LineList, pairs: &mut usize) -> u32
-    ensures answer { λ r. ⌜ r ≡ code (reportOfLineList list) ⌝ }
-    ensures pairs { λ _. ⌜ now (pairs .exit) ≡ valueOr (now (pairs .entry)) (reportOfLineList list) ⌝ }
+    ensures told { λ r. ⌜ Told (reportOfLineList list) (now (pairs .entry)) r (now (pairs .exit)) ⌝ }
 {
     match list {
         LineList::Accepted { pairs: counted } => {
@@ -56,10 +52,8 @@ pub fn answer_line_list(list: LineList, pairs: &mut usize) -> u32
 }
 
 pub fn answer_file(file: FileAnswer, nodes: &mut usize, edges: &mut usize, tags: &mut usize) -> u32
-    ensures answer { λ r. ⌜ r ≡ code (reportOfFile file) ⌝ }
-    ensures nodes { λ _. ⌜ now (nodes .exit) ≡ partOr nodesRead (now (nodes .entry)) (reportOfFile file) ⌝ }
-    ensures edges { λ _. ⌜ now (edges .exit) ≡ partOr edgesRead (now (edges .entry)) (reportOfFile file) ⌝ }
-    ensures tags { λ _. ⌜ now (tags .exit) ≡ partOr tagsRead (now (tags .entry)) (reportOfFile file) ⌝ }
+    ensures told { λ r. ⌜ Told (reportOfFile file) (now (nodes .entry), now (edges .entry), now (tags .entry)) r
+        (now (nodes .exit), now (edges .exit), now (tags .exit)) ⌝ }
 {
     match file {
         FileAnswer::Accepted {

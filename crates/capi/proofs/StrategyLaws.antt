@@ -3,7 +3,7 @@ use Prim.Native.Nat.{ℕ}
 use mathlib.Core.Bool.{true}
 use mathlib.Core.List.{List, [], _∷_, _++_}
 use mathlib.Core.Option.{Option, none, some}
-use mathlib.Core.Path.{_≡_, refl, sym, ap, subst, _∙_}
+use mathlib.Core.Path.{_≡_, refl, sym, ap, _∙_}
 use lib.ListN.{length}
 use Rattle.graph.specs.Report.{Report, refused, reportOfChecked}
 use Rattle.graph.specs.Check.{Check, _gives_, firstRefusal, answered}
@@ -11,31 +11,14 @@ use Rattle.graph.proofs.CheckLaws.{refused-first, passed-first, first-refuses, 
 use Rattle.graph.specs.Color.{Outcome, colored}
 use Rattle.graph.specs.Edges.{edgeCount}
 use Rattle.graph.specs.declared.Checked.{Checked}
-use Rattle.greedy.specs.Call.{Rule, ruleOf, itemChecks, checkItems, checkNodes, checkEdges, greedyNodes, greedyEdges}
+use Rattle.greedy.specs.Call.{Rule, ruleOf, itemChecks, checkItems}
 use Rattle.greedy.specs.declared.ColoringStrategy.{ColoringStrategy}
-use Rattle.c_answer.specs.Answer.{code, valueOr}
+use Rattle.c_answer.specs.Answer.{Told, Answered}
 use Rattle.c_answer.specs.Strategy.{strategyOf, strategyNamed, codeOfUnknown}
 use Rattle.c_answer.specs.declared.strategy.StrategyNumber.{StrategyNumber}
 use Rattle.c_answer.specs.declared.strategy.StrategyNumber.the-variants as N
-use Rattle.c_answer.proofs.AnswerLaws.{Answered, answered-by}
-use Rattle.capi.specs.Strategy.{unknownStrategy, byNumber, nodesByNumber, edgesByNumber}
-
--- ---- the call by a number
-
-module _ (number : ℕ) (s : StrategyNumber) (e : strategyNamed s ≡ strategyOf number) (call : Rule → Outcome) (other : Outcome) where
-  pub by-known : (strategy : ColoringStrategy) → s ≡ N.Known strategy → call (ruleOf strategy) ≡ byNumber number call other
-  unfolding byNumber
-  by-known strategy p =
-      let q : strategyOf number ≡ some strategy = sym e ∙ ap strategyNamed p in
-      rw (q, byNumber)
-
-  pub by-unknown : s ≡ N.Unknown → other ≡ byNumber number call other
-  unfolding byNumber
-  by-unknown p =
-      let q : strategyOf number ≡ none = sym e ∙ ap strategyNamed p in
-      rw (q, byNumber)
-
--- ---- an unknown strategy
+use Rattle.c_answer.proofs.AnswerLaws.{answered-by}
+use Rattle.capi.specs.Strategy.{unknownStrategy, byNumber}
 
 -- The checks with a last one that always refuses.
 refusal : {A : Type 0} (checks : List Check) (values : A) → firstRefusal (checks ++ (true gives 255) ∷ []) ≡ some (codeOfUnknown (answered checks values))
@@ -54,28 +37,21 @@ module _ (items n : ℕ) (ends presets lent : List ℕ) (c : Checked) (e : repor
       let q = refusal checks (n, edgeCount ends) ∙ ap (λ (x : Report (ℕ × ℕ)). some (codeOfUnknown x)) (sym e) in
       (answered-refused (checks ++ (true gives 255) ∷ []) _ _ q, written-refused (checks ++ (true gives 255) ∷ []) _ _ _ q)
 
-  unknown-answered : (r before : ℕ) → r ≡ codeOfUnknown (reportOfChecked c) → Answered (unknownStrategy items n ends presets lent) r before before lent
-  unknown-answered r before a = answered-by (refused (codeOfUnknown (reportOfChecked c))) r before before a refl _ lent (unknown-outcome .0) (unknown-outcome .1)
+-- ---- the call by a number
 
--- ---- the calls
+module _ (number : ℕ) (s : StrategyNumber) (e : strategyNamed s ≡ strategyOf number) (call : Rule → Outcome) where
+  pub known-answered : (other : Outcome) (strategy : ColoringStrategy) → s ≡ N.Known strategy → (report : Report ℕ) (before r after : ℕ) (lent : List ℕ)
+      → Told report before r after → report ≡ call (ruleOf strategy) .report → lent ≡ call (ruleOf strategy) .colors
+      → Answered (byNumber number call other .report) (byNumber number call other .colors) before r after lent
+  unfolding byNumber
+  known-answered other strategy p report before r after lent t q w =
+      let named : strategyOf number ≡ some strategy = sym e ∙ ap strategyNamed p in rw (named, byNumber) (answered-by report before r after _ _ lent t q w)
 
-module _ (number : ℕ) (s : StrategyNumber) (e : strategyNamed s ≡ strategyOf number) (n : ℕ) (ends presets lent : List ℕ) where
-  module _ (strategy : ColoringStrategy) (p : s ≡ N.Known strategy) (report : Report ℕ) (r before after : ℕ) (a : r ≡ code report) (b : after ≡ valueOr before report) (colors : List ℕ) where
-    pub nodes-known : report ≡ greedyNodes (ruleOf strategy) n ends presets lent .report → colors ≡ greedyNodes (ruleOf strategy) n ends presets lent .colors
-        → Answered (nodesByNumber number n ends presets lent) r before after colors
-    unfolding nodesByNumber
-    nodes-known q w = subst (λ (o : Outcome). Answered o r before after colors) (by-known number s e _ _ strategy p) (answered-by report r before after a b _ colors q w)
-
-    pub edges-known : report ≡ greedyEdges (ruleOf strategy) n ends presets lent .report → colors ≡ greedyEdges (ruleOf strategy) n ends presets lent .colors
-        → Answered (edgesByNumber number n ends presets lent) r before after colors
-    unfolding edgesByNumber
-    edges-known q w = subst (λ (o : Outcome). Answered o r before after colors) (by-known number s e _ _ strategy p) (answered-by report r before after a b _ colors q w)
-
-  module _ (p : s ≡ N.Unknown) (c : Checked) (r before : ℕ) (a : r ≡ codeOfUnknown (reportOfChecked c)) where
-    pub nodes-unknown : reportOfChecked c ≡ checkNodes n ends (length presets) (length lent) → Answered (nodesByNumber number n ends presets lent) r before before lent
-    unfolding nodesByNumber checkNodes
-    nodes-unknown q = subst (λ (o : Outcome). Answered o r before before lent) (by-unknown number s e _ _ p) (unknown-answered n n ends presets lent c q r before a)
-
-    pub edges-unknown : reportOfChecked c ≡ checkEdges n ends (length presets) (length lent) → Answered (edgesByNumber number n ends presets lent) r before before lent
-    unfolding edgesByNumber checkEdges
-    edges-unknown q = subst (λ (o : Outcome). Answered o r before before lent) (by-unknown number s e _ _ p) (unknown-answered (edgeCount ends) n ends presets lent c q r before a)
+  pub unknown-answered : (items n : ℕ) (ends presets lent : List ℕ) → s ≡ N.Unknown → (c : Checked) (before r : ℕ)
+      → r ≡ codeOfUnknown (reportOfChecked c) → reportOfChecked c ≡ checkItems n ends items (length presets) (length lent)
+      → let outcome = byNumber number call (unknownStrategy items n ends presets lent) in Answered (outcome .report) (outcome .colors) before r before lent
+  unfolding byNumber
+  unknown-answered items n ends presets lent p c before r a q =
+      let named : strategyOf number ≡ none = sym e ∙ ap strategyNamed p in
+      let o = unknown-outcome items n ends presets lent c q in
+      rw (named, byNumber) (answered-by (refused (codeOfUnknown (reportOfChecked c))) before r before _ _ lent (record { number-is = a; values-are = refl }) (o .0) (o .1))

@@ -18,8 +18,8 @@ unknownStrategy items n ends presets colors = colored (itemChecks n ends items (
 unfoldable pub byNumber : ℕ → (Rule → Outcome) → Outcome → Outcome
 byNumber number call other = elim (strategyOf number) [ none ↦ other | some strategy ↦ call (ruleOf strategy) ]
 
-unfoldable pub nodesByNumber : ℕ → ℕ → List ℕ → List ℕ → List ℕ → Outcome
+abbrev pub nodesByNumber : ℕ → ℕ → List ℕ → List ℕ → List ℕ → Outcome
 nodesByNumber number n ends presets colors = byNumber number (λ rule. greedyNodes rule n ends presets colors) (unknownStrategy n n ends presets colors)
 
-unfoldable pub edgesByNumber : ℕ → ℕ → List ℕ → List ℕ → List ℕ → Outcome
+abbrev pub edgesByNumber : ℕ → ℕ → List ℕ → List ℕ → List ℕ → Outcome
 edgesByNumber number n ends presets colors = byNumber number (λ rule. greedyEdges rule n ends presets colors) (unknownStrategy (edgeCount ends) n ends presets colors)

@@ -101,9 +101,7 @@ module _ (n : ℕ) (ends : List ℕ) where
       go (some strategy) e = rw (e, byNumber) (known (ruleOf strategy))
 
   pub nodes-by-number-zero : (number : ℕ) (presets colors : List ℕ) → ZeroAccepts (nodesByNumber number n ends presets colors .report)
-  unfolding nodesByNumber
   nodes-by-number-zero number presets colors = by-number-zero number (λ rule. greedyNodes rule n ends presets colors) (unknownStrategy n n ends presets colors) (λ rule. nodes-zero rule presets colors) (unknown-zero n presets colors)
 
   pub edges-by-number-zero : (number : ℕ) (presets colors : List ℕ) → ZeroAccepts (edgesByNumber number n ends presets colors .report)
-  unfolding edgesByNumber
   edges-by-number-zero number presets colors = by-number-zero number (λ rule. greedyEdges rule n ends presets colors) (unknownStrategy (edgeCount ends) n ends presets colors) (λ rule. edges-zero rule presets colors) (unknown-zero (edgeCount ends) presets colors)

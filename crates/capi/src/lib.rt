@@ -1,6 +1,7 @@
 // The C interface. Each call answers 0 where it accepted, or the refusal's number, and hands its report back through a pointer,
 // which is unchanged on a refusal. include/wulgranite.h declares these functions for C.
-ghost use mathlib.Core.Path.{_≡_};
+ghost use Prim.Native.Nat.{ℕ};
+ghost use mathlib.Core.List.{List};
 ghost use Rattle.graph.specs.Table.{incidenceOf};
 ghost use Rattle.two_color.specs.TwoColor.{twoColor};
 ghost use Rattle.line_list.specs.LineList.{lineGraph};
@@ -8,7 +9,7 @@ ghost use Rattle.greedy.specs.Degree.{degreeColors};
 ghost use Rattle.greedy.specs.Call.{greedyNodes, greedyNodesPlain, greedyEdgesPlain};
 ghost use Rattle.vizing.specs.MisraGries.{misraGries};
 ghost use Rattle.graph_file.specs.File.{readFile};
-ghost use Rattle.c_answer.specs.Answer.{code, valueOr, partOr, nodesRead, edgesRead, tagsRead};
+ghost use Rattle.c_answer.specs.Answer.{Answered};
 ghost use Rattle.capi.specs.Strategy.{nodesByNumber, edgesByNumber};
 use c_answer::StrategyNumber;
 use c_answer::answer_coloring;
@@ -26,26 +27,18 @@ pub extern "C" fn wg_incidence(
     entries: &mut [u16],
     total: &mut usize,
 ) -> u32
-    ensures answer { λ r. let ends = now (ends .entry) in let starts = now (starts .entry) in let entries = now (entries .entry) in
-        ⌜ r ≡ code (incidenceOf n ends starts entries .report) ⌝ }
-    ensures starts { λ _. let ends = now (ends .entry) in let starts₀ = now (starts .entry) in let entries = now (entries .entry) in
-        ⌜ now (starts .exit) ≡ incidenceOf n ends starts₀ entries .starts ⌝ }
-    ensures entries { λ _. let ends = now (ends .entry) in let starts = now (starts .entry) in let entries₀ = now (entries .entry) in
-        ⌜ now (entries .exit) ≡ incidenceOf n ends starts entries₀ .entries ⌝ }
-    ensures total { λ _. let total₀ = now (total .entry) in let ends = now (ends .entry) in let starts = now (starts .entry) in
-        let entries = now (entries .entry) in
-        ⌜ now (total .exit) ≡ valueOr total₀ (incidenceOf n ends starts entries .report) ⌝ }
+    ensures answered { λ r. let ends = now (ends .entry) in let starts₀ = now (starts .entry) in let entries₀ = now (entries .entry) in
+        let outcome = incidenceOf n ends starts₀ entries₀ in
+        ⌜ Answered {B = List ℕ × List ℕ} (outcome .report) (outcome .starts, outcome .entries) (now (total .entry)) r
+        (now (total .exit)) (now (starts .exit), now (entries .exit)) ⌝ }
 {
     answer_incidence(wulgranite::incidence(n, ends, starts, entries), total)
 }
 
 #[no_mangle]
 pub extern "C" fn wg_two_color(n: usize, ends: &[u16], colors: &mut [u8], days: &mut usize) -> u32
-    ensures answer { λ r. let ends = now (ends .entry) in let colors = now (colors .entry) in ⌜ r ≡ code (twoColor n ends colors .report) ⌝ }
-    ensures colors { λ _. let ends = now (ends .entry) in let colors₀ = now (colors .entry) in
-        ⌜ now (colors .exit) ≡ twoColor n ends colors₀ .colors ⌝ }
-    ensures days { λ _. let days₀ = now (days .entry) in let ends = now (ends .entry) in let colors = now (colors .entry) in
-        ⌜ now (days .exit) ≡ valueOr days₀ (twoColor n ends colors .report) ⌝ }
+    ensures answered { λ r. let ends = now (ends .entry) in let colors₀ = now (colors .entry) in let outcome = twoColor n ends colors₀ in
+        ⌜ Answered (outcome .report) (outcome .colors) (now (days .entry)) r (now (days .exit)) (now (colors .exit)) ⌝ }
 {
     answer_coloring(wulgranite::two_color(n, ends, colors), days)
 }
@@ -57,12 +50,9 @@ pub extern "C" fn wg_greedy_node_color(
     colors: &mut [u16],
     days: &mut usize,
 ) -> u32
-    ensures answer { λ r. let ends = now (ends .entry) in let colors = now (colors .entry) in
-        ⌜ r ≡ code (greedyNodesPlain degreeColors n ends colors .report) ⌝ }
-    ensures colors { λ _. let ends = now (ends .entry) in let colors₀ = now (colors .entry) in
-        ⌜ now (colors .exit) ≡ greedyNodesPlain degreeColors n ends colors₀ .colors ⌝ }
-    ensures days { λ _. let days₀ = now (days .entry) in let ends = now (ends .entry) in let colors = now (colors .entry) in
-        ⌜ now (days .exit) ≡ valueOr days₀ (greedyNodesPlain degreeColors n ends colors .report) ⌝ }
+    ensures answered { λ r. let ends = now (ends .entry) in let colors₀ = now (colors .entry) in
+        let outcome = greedyNodesPlain degreeColors n ends colors₀ in
+        ⌜ Answered (outcome .report) (outcome .colors) (now (days .entry)) r (now (days .exit)) (now (colors .exit)) ⌝ }
 {
     answer_coloring(wulgranite::greedy_node_color(n, ends, colors), days)
 }
@@ -75,13 +65,9 @@ pub extern "C" fn wg_greedy_node_color_with_preset_colors(
     colors: &mut [u16],
     days: &mut usize,
 ) -> u32
-    ensures answer { λ r. let ends = now (ends .entry) in let presets = now (presets .entry) in let colors = now (colors .entry) in
-        ⌜ r ≡ code (greedyNodes degreeColors n ends presets colors .report) ⌝ }
-    ensures colors { λ _. let ends = now (ends .entry) in let presets = now (presets .entry) in let colors₀ = now (colors .entry) in
-        ⌜ now (colors .exit) ≡ greedyNodes degreeColors n ends presets colors₀ .colors ⌝ }
-    ensures days { λ _. let days₀ = now (days .entry) in let ends = now (ends .entry) in let presets = now (presets .entry) in
-        let colors = now (colors .entry) in
-        ⌜ now (days .exit) ≡ valueOr days₀ (greedyNodes degreeColors n ends presets colors .report) ⌝ }
+    ensures answered { λ r. let ends = now (ends .entry) in let presets = now (presets .entry) in let colors₀ = now (colors .entry) in
+        let outcome = greedyNodes degreeColors n ends presets colors₀ in
+        ⌜ Answered (outcome .report) (outcome .colors) (now (days .entry)) r (now (days .exit)) (now (colors .exit)) ⌝ }
 {
     answer_coloring(
         wulgranite::greedy_node_color_with_preset_colors(n, ends, presets, colors),
@@ -98,13 +84,9 @@ pub extern "C" fn wg_greedy_node_color_with_coloring_strategy(
     colors: &mut [u16],
     days: &mut usize,
 ) -> u32
-    ensures answer { λ r. let ends = now (ends .entry) in let presets = now (presets .entry) in let colors = now (colors .entry) in
-        ⌜ r ≡ code (nodesByNumber strategy n ends presets colors .report) ⌝ }
-    ensures colors { λ _. let ends = now (ends .entry) in let presets = now (presets .entry) in let colors₀ = now (colors .entry) in
-        ⌜ now (colors .exit) ≡ nodesByNumber strategy n ends presets colors₀ .colors ⌝ }
-    ensures days { λ _. let days₀ = now (days .entry) in let ends = now (ends .entry) in let presets = now (presets .entry) in
-        let colors = now (colors .entry) in
-        ⌜ now (days .exit) ≡ valueOr days₀ (nodesByNumber strategy n ends presets colors .report) ⌝ }
+    ensures answered { λ r. let ends = now (ends .entry) in let presets = now (presets .entry) in let colors₀ = now (colors .entry) in
+        let outcome = nodesByNumber strategy n ends presets colors₀ in
+        ⌜ Answered (outcome .report) (outcome .colors) (now (days .entry)) r (now (days .exit)) (now (colors .exit)) ⌝ }
 {
     match strategy_of(strategy) {
         StrategyNumber::Known(known) => answer_coloring(
@@ -125,12 +107,9 @@ pub extern "C" fn wg_greedy_edge_color(
     colors: &mut [u16],
     days: &mut usize,
 ) -> u32
-    ensures answer { λ r. let ends = now (ends .entry) in let colors = now (colors .entry) in
-        ⌜ r ≡ code (greedyEdgesPlain degreeColors n ends colors .report) ⌝ }
-    ensures colors { λ _. let ends = now (ends .entry) in let colors₀ = now (colors .entry) in
-        ⌜ now (colors .exit) ≡ greedyEdgesPlain degreeColors n ends colors₀ .colors ⌝ }
-    ensures days { λ _. let days₀ = now (days .entry) in let ends = now (ends .entry) in let colors = now (colors .entry) in
-        ⌜ now (days .exit) ≡ valueOr days₀ (greedyEdgesPlain degreeColors n ends colors .report) ⌝ }
+    ensures answered { λ r. let ends = now (ends .entry) in let colors₀ = now (colors .entry) in
+        let outcome = greedyEdgesPlain degreeColors n ends colors₀ in
+        ⌜ Answered (outcome .report) (outcome .colors) (now (days .entry)) r (now (days .exit)) (now (colors .exit)) ⌝ }
 {
     answer_coloring(wulgranite::greedy_edge_color(n, ends, colors), days)
 }
@@ -144,13 +123,9 @@ pub extern "C" fn wg_greedy_edge_color_with_coloring_strategy(
     colors: &mut [u16],
     days: &mut usize,
 ) -> u32
-    ensures answer { λ r. let ends = now (ends .entry) in let presets = now (presets .entry) in let colors = now (colors .entry) in
-        ⌜ r ≡ code (edgesByNumber strategy n ends presets colors .report) ⌝ }
-    ensures colors { λ _. let ends = now (ends .entry) in let presets = now (presets .entry) in let colors₀ = now (colors .entry) in
-        ⌜ now (colors .exit) ≡ edgesByNumber strategy n ends presets colors₀ .colors ⌝ }
-    ensures days { λ _. let days₀ = now (days .entry) in let ends = now (ends .entry) in let presets = now (presets .entry) in
-        let colors = now (colors .entry) in
-        ⌜ now (days .exit) ≡ valueOr days₀ (edgesByNumber strategy n ends presets colors .report) ⌝ }
+    ensures answered { λ r. let ends = now (ends .entry) in let presets = now (presets .entry) in let colors₀ = now (colors .entry) in
+        let outcome = edgesByNumber strategy n ends presets colors₀ in
+        ⌜ Answered (outcome .report) (outcome .colors) (now (days .entry)) r (now (days .exit)) (now (colors .exit)) ⌝ }
 {
     match strategy_of(strategy) {
         StrategyNumber::Known(known) => answer_coloring(
@@ -166,10 +141,8 @@ pub extern "C" fn wg_greedy_edge_color_with_coloring_strategy(
 
 #[no_mangle]
 pub extern "C" fn wg_line_graph(n: usize, ends: &[u16], list: &mut [u16], pairs: &mut usize) -> u32
-    ensures answer { λ r. let ends = now (ends .entry) in let list = now (list .entry) in ⌜ r ≡ code (lineGraph n ends list .report) ⌝ }
-    ensures list { λ _. let ends = now (ends .entry) in let list₀ = now (list .entry) in ⌜ now (list .exit) ≡ lineGraph n ends list₀ .list ⌝ }
-    ensures pairs { λ _. let pairs₀ = now (pairs .entry) in let ends = now (ends .entry) in let list = now (list .entry) in
-        ⌜ now (pairs .exit) ≡ valueOr pairs₀ (lineGraph n ends list .report) ⌝ }
+    ensures answered { λ r. let ends = now (ends .entry) in let list₀ = now (list .entry) in let outcome = lineGraph n ends list₀ in
+        ⌜ Answered (outcome .report) (outcome .list) (now (pairs .entry)) r (now (pairs .exit)) (now (list .exit)) ⌝ }
 {
     answer_line_list(wulgranite::line_graph(n, ends, list), pairs)
 }
@@ -181,11 +154,8 @@ pub extern "C" fn wg_misra_gries_edge_color(
     colors: &mut [u16],
     days: &mut usize,
 ) -> u32
-    ensures answer { λ r. let ends = now (ends .entry) in let colors = now (colors .entry) in ⌜ r ≡ code (misraGries n ends colors .report) ⌝ }
-    ensures colors { λ _. let ends = now (ends .entry) in let colors₀ = now (colors .entry) in
-        ⌜ now (colors .exit) ≡ misraGries n ends colors₀ .colors ⌝ }
-    ensures days { λ _. let days₀ = now (days .entry) in let ends = now (ends .entry) in let colors = now (colors .entry) in
-        ⌜ now (days .exit) ≡ valueOr days₀ (misraGries n ends colors .report) ⌝ }
+    ensures answered { λ r. let ends = now (ends .entry) in let colors₀ = now (colors .entry) in let outcome = misraGries n ends colors₀ in
+        ⌜ Answered (outcome .report) (outcome .colors) (now (days .entry)) r (now (days .exit)) (now (colors .exit)) ⌝ }
 {
     answer_coloring(wulgranite::misra_gries_edge_color(n, ends, colors), days)
 }
@@ -198,14 +168,9 @@ pub extern "C" fn wg_read_graph_file(
     edges: &mut usize,
     tags: &mut usize,
 ) -> u32
-    ensures answer { λ r. let bytes = now (bytes .entry) in let ends = now (ends .entry) in ⌜ r ≡ code (readFile bytes ends .report) ⌝ }
-    ensures ends { λ _. let bytes = now (bytes .entry) in let ends₀ = now (ends .entry) in ⌜ now (ends .exit) ≡ readFile bytes ends₀ .ends ⌝ }
-    ensures nodes { λ _. let nodes₀ = now (nodes .entry) in let bytes = now (bytes .entry) in let ends = now (ends .entry) in
-        ⌜ now (nodes .exit) ≡ partOr nodesRead nodes₀ (readFile bytes ends .report) ⌝ }
-    ensures edges { λ _. let edges₀ = now (edges .entry) in let bytes = now (bytes .entry) in let ends = now (ends .entry) in
-        ⌜ now (edges .exit) ≡ partOr edgesRead edges₀ (readFile bytes ends .report) ⌝ }
-    ensures tags { λ _. let tags₀ = now (tags .entry) in let bytes = now (bytes .entry) in let ends = now (ends .entry) in
-        ⌜ now (tags .exit) ≡ partOr tagsRead tags₀ (readFile bytes ends .report) ⌝ }
+    ensures answered { λ r. let bytes = now (bytes .entry) in let ends₀ = now (ends .entry) in let outcome = readFile bytes ends₀ in
+        ⌜ Answered (outcome .report) (outcome .ends) (now (nodes .entry), now (edges .entry), now (tags .entry)) r
+        (now (nodes .exit), now (edges .exit), now (tags .exit)) (now (ends .exit)) ⌝ }
 {
     answer_file(wulgranite::read_graph_file(bytes, ends), nodes, edges, tags)
 }

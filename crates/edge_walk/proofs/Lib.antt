@@ -1,2 +1,3 @@
--- What a step of a walk tells.
+-- What a step of a walk tells, and steps for proofs by hand, which misra_gries uses too.
 pub mod WalkLaws
+pub mod Hand

@@ -1,2 +1,2 @@
--- `Hand` has what the proofs by hand below share.
-mod Hand
+-- `Held` has the walk's type and laws, for the proofs by hand below.
+mod Held

@@ -1,3 +1,2 @@
--- `Hand` has the steps that the proofs by hand below share, and `Passed` the parameters that they pass on.
-mod Hand
+-- `Passed` has the parameters that the proofs by hand below pass on.
 mod Passed

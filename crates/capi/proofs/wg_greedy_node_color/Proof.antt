@@ -4,10 +4,5 @@ use Rattle.c_answer.proofs.AnswerLaws.{answered-by}
 use Rattle.capi.proofs.wg_greedy_node_color.Statement.{statement}
 use Rattle.capi.proofs.wg_greedy_node_color.Tie as tie
 
-returns : tie.Need-returns
-returns c = answered-by _ _ _ _ (c .answer-coloring .ensures .0) (c .answer-coloring .ensures .1) _ _ (c .before .before .before .before .greedy-node-color .ensures .0) (c .before .before .before .before .greedy-node-color .ensures .1 .0)
-
 pub wg-greedy-node-color-spec : {M : Type 1} → statement M
-wg-greedy-node-color-spec = tie.close (tie.spec
-    (λ c κs. search needs) (λ c κs. search needs) (λ c. search needs)
-    returns)
+wg-greedy-node-color-spec = tie.close (tie.spec (λ c κs. search needs) (λ c κs. search needs) (λ c. search needs) (λ c. search (needs, answered-by)))

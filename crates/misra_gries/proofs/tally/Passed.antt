@@ -1,11 +1,12 @@
 -- The parameters that `step_kept` passes on to `step_tallied`, and that to `step`: all but the tally, in one order.
 --     Rest κs          their types, at their lifetimes
 --     spelled, told    their machine values, as functions of their values; and that they can be no others
+--     fits             what a place asks of a list's machine value, given the list's length
 use mathlib.Core.Path.{_≡_}
 use mathlib.Core.List.{List, []}
-use Prim.Native.Nat.{ℕ}
+use Prim.Native.Nat.{ℕ, _<_, _^_}
 use mir.Syntax.{named, w64}
-use mir.Val.{Val}
+use mir.Val.{Val, WT, vint}
 use contract.Lifetimes.{Lfts}
 use denote.Builtin.{u16}
 use denote.Laws.{Is, Ises, Spells, Tellss}
@@ -31,3 +32,6 @@ spelled κs = (uint-vals w64, (slice-vals, (slice-vals, (slice-vals, (slice-vals
 
 abbrev pub told : (κs : Lfts 6) → Tellss (Rest κs) (Ises (Rest κs)) (spelled κs)
 told κs = (uint-tells w64, (slice-told, (slice-told, (slice-told, (slice-told, (slice-told, (slice-told, (LL.tells E.the-type E′.the-laws, tt))))))))
+
+abbrev pub fits : {n : ℕ} → n < 2 ^ 64 → Unit {0} × (Unit {0} × (WT (vint w64 n) × Unit {0}))
+fits p = (tt, (tt, (record { fits = p }, tt)))

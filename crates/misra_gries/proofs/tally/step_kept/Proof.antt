@@ -17,7 +17,7 @@ use contract.Monad.{Fun, factI}
 use contract.Running.{givenOf, tables, tablesOf}
 use types.Kit.{Given, ‵, raw, _⊛_, some, later, _$_, _∵_, !, qed, by, move, drop, use1, use2, use3, split, join, pick, fsplit, fjoin, await}
 use types.Part.{agg, whole, sub, look-in}
-use types.Run.{look, init, stop, hop, fld, from, load, addr, of-opd, and-then, no-more}
+use types.Run.{look, init, stop, hop, fld, from, addr, of-opd, and-then, no-more}
 use types.Run.{assigns, returns, enter, alloc1, alloc0, params1, pass1, pass0}
 use types.SemTy.{Body}
 use types.Tokens.{lft-new, lft-end}
@@ -40,8 +40,8 @@ use Rattle.graph.proofs.EdgeIndex as E
 use Rattle.graph.proofs.EdgeIndex.Laws as E′
 use Rattle.misra_gries.proofs.tally.Tally as T
 use Rattle.misra_gries.proofs.tally.Tally.Laws as T′
-use Rattle.misra_gries.proofs.tally.Hand.{tripleFor, both-facts, give-both, meets-from, asks, call-of, finish, local-at, land-at, free-all, lays, lifts}
-use Rattle.misra_gries.proofs.tally.Passed.{Rest, spelled, told}
+use Rattle.edge_walk.proofs.Hand.{contractOf, both-facts, give-both, meets-from, asks, call-of, finish, local-at, field-at, land-at, free-all, lays, lifts}
+use Rattle.misra_gries.proofs.tally.Passed.{Rest, spelled, told, fits}
 use Rattle.misra_gries.proofs.tally.step_tallied as step-tallied
 use Rattle.misra_gries.proofs.tally.step_tallied.Symbol as step-tallied-def
 use Rattle.misra_gries.proofs.tally.step_tallied.Symbol.{name as #step-tallied}
@@ -57,10 +57,10 @@ module _ {M : Type 1} (𝓤 : URA M) (H : Heap 𝓤) (A : Atoms 𝓤) (W : Given
 
   -- the contracts: this function's, and the one that the proof cites
   abbrev Keeps : Contract 𝓤
-  Keeps = tripleFor 𝓤 H A step-kept.ended c
+  Keeps = contractOf 𝓤 H A step-kept.ended c
 
   abbrev Tallies : Contract 𝓤
-  Tallies = tripleFor 𝓤 H A step-tallied.ended (step-tallied.clauses 𝓤 H A at-mem run)
+  Tallies = contractOf 𝓤 H A step-tallied.ended (step-tallied.clauses 𝓤 H A at-mem run)
 
   module _ (κs : Lfts 6) (qs : Shares 6) (a : Args step-kept.signature κs) where
     abbrev h : Tally
@@ -96,26 +96,19 @@ module _ {M : Type 1} (𝓤 : URA M) (H : Heap 𝓤) (A : Atoms 𝓤) (W : Given
           alloc1 ! (λ l₁₇. alloc1 ! (λ l₁₈. alloc0 ! $ params1 ! $
           pass1 ! (init ! 34 refl (LL.lawful T.the-type T′.the-laws 𝓤 H A W .typed h _ is-h .0)) $
           pass1 ! (init ! 32 refl (tt, record { fits = are .0 .1 })) $
-          pass1 ! (init ! 30 refl (tt, (tt, (record { fits = are .1 .0 .0 .1 .0 }, tt)))) $
-          pass1 ! (init ! 28 refl (tt, (tt, (record { fits = are .1 .1 .0 .0 .1 .0 }, tt)))) $
-          pass1 ! (init ! 26 refl (tt, (tt, (record { fits = are .1 .1 .1 .0 .0 .1 .0 }, tt)))) $
-          pass1 ! (init ! 24 refl (tt, (tt, (record { fits = are .1 .1 .1 .1 .0 .0 .1 .0 }, tt)))) $
-          pass1 ! (init ! 22 refl (tt, (tt, (record { fits = are .1 .1 .1 .1 .1 .0 .0 .1 .0 }, tt)))) $
-          pass1 ! (init ! 20 refl (tt, (tt, (record { fits = are .1 .1 .1 .1 .1 .1 .0 .0 .1 .0 }, tt)))) $
+          pass1 ! (init ! 30 refl (fits (are .1 .0 .0 .1 .0))) $ pass1 ! (init ! 28 refl (fits (are .1 .1 .0 .0 .1 .0))) $ pass1 ! (init ! 26 refl (fits (are .1 .1 .1 .0 .0 .1 .0))) $
+          pass1 ! (init ! 24 refl (fits (are .1 .1 .1 .1 .0 .0 .1 .0))) $ pass1 ! (init ! 22 refl (fits (are .1 .1 .1 .1 .1 .0 .0 .1 .0))) $ pass1 ! (init ! 20 refl (fits (are .1 .1 .1 .1 .1 .1 .0 .0 .1 .0))) $
           pass1 ! (init ! 18 refl (LL.lawful E.the-type E′.the-laws 𝓤 H A W .typed (a .1 .1 .1 .1 .1 .1 .1 .1 .0) _ (are .1 .1 .1 .1 .1 .1 .1 .0) .0)) $ pass0 ! $
           -- [room for _18; …; room for _10; …; _9; …; _1; …; room for _0; …; what the tally owns; what the lists and the edge own; the lists' tokens]
           assigns ! (of-opd ! (local-at ! 34 refl)) (from ! (stop !)) (init ! 16 refl (LL.lawful T.the-type T′.the-laws 𝓤 H A W .typed h _ is-h .0)) $
           assigns ! (addr ! (from ! (stop !))) (from ! (stop !)) (init ! 12 refl (tt, tt)) $
           -- each `&mut` list is lent on: its pointer, then the pointer with the count
           assigns ! (addr ! (from ! (fld ! refl (hop ! (look-in ! 24 (sub ! 0 refl (whole !))) (stop !))))) (from ! (stop !)) (init ! 10 refl (tt, tt)) $
-          assigns ! (agg ! (and-then ! (local-at ! 10 refl) (and-then ! (load ! (from ! (fld ! refl (stop !))) (look-in ! 24 (sub ! 1 refl (whole !)))) (no-more !))))
-          (from ! (stop !)) (init ! 8 refl (tt, (tt, (record { fits = are .1 .1 .1 .1 .0 .0 .1 .0 }, tt)))) $
+          assigns ! (agg ! (and-then ! (local-at ! 10 refl) (and-then ! (field-at ! 24 1 (whole !) refl refl) (no-more !)))) (from ! (stop !)) (init ! 8 refl (fits (are .1 .1 .1 .1 .0 .0 .1 .0))) $
           assigns ! (addr ! (from ! (fld ! refl (hop ! (look-in ! 22 (sub ! 0 refl (whole !))) (stop !))))) (from ! (stop !)) (init ! 6 refl (tt, tt)) $
-          assigns ! (agg ! (and-then ! (local-at ! 6 refl) (and-then ! (load ! (from ! (fld ! refl (stop !))) (look-in ! 22 (sub ! 1 refl (whole !)))) (no-more !))))
-          (from ! (stop !)) (init ! 4 refl (tt, (tt, (record { fits = are .1 .1 .1 .1 .1 .0 .0 .1 .0 }, tt)))) $
+          assigns ! (agg ! (and-then ! (local-at ! 6 refl) (and-then ! (field-at ! 22 1 (whole !) refl refl) (no-more !)))) (from ! (stop !)) (init ! 4 refl (fits (are .1 .1 .1 .1 .1 .0 .0 .1 .0))) $
           assigns ! (addr ! (from ! (fld ! refl (hop ! (look-in ! 20 (sub ! 0 refl (whole !))) (stop !))))) (from ! (stop !)) (init ! 2 refl (tt, tt)) $
-          assigns ! (agg ! (and-then ! (local-at ! 2 refl) (and-then ! (load ! (from ! (fld ! refl (stop !))) (look-in ! 20 (sub ! 1 refl (whole !)))) (no-more !))))
-          (from ! (stop !)) (init ! 0 refl (tt, (tt, (record { fits = are .1 .1 .1 .1 .1 .1 .0 .0 .1 .0 }, tt)))) $
+          assigns ! (agg ! (and-then ! (local-at ! 2 refl) (and-then ! (field-at ! 20 1 (whole !) refl refl) (no-more !)))) (from ! (stop !)) (init ! 0 refl (fits (are .1 .1 .1 .1 .1 .1 .0 .0 .1 .0))) $
           -- _10 is lent for a lifetime ν of the call
           lft-new ! tt (λ ν. move ! (17 ∷ 39 ∷ []) $ use2 W (‵ (partAt T.the-row fullShare h l₁₀ 0)) (lays 𝓤 H A W T.the-type T′.the-laws h l₁₀) $
           use1 W (later (some (λ (δ : GName).

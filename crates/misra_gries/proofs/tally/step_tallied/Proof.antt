@@ -40,8 +40,8 @@ use Rattle.graph.proofs.EdgeIndex as E
 use Rattle.graph.proofs.EdgeIndex.Laws as E′
 use Rattle.misra_gries.proofs.tally.Tally as T
 use Rattle.misra_gries.proofs.tally.Tally.Laws as T′
-use Rattle.misra_gries.proofs.tally.Hand.{tripleFor, both-facts, meets-from, asks, call-of, finish, local-at, land-at, free-all}
-use Rattle.misra_gries.proofs.tally.Passed.{Rest, spelled, told}
+use Rattle.edge_walk.proofs.Hand.{contractOf, both-facts, meets-from, asks, call-of, finish, local-at, field-at, land-at, free-all}
+use Rattle.misra_gries.proofs.tally.Passed.{Rest, spelled, told, fits}
 use Rattle.misra_gries.proofs.steps.step as step
 use Rattle.misra_gries.proofs.steps.step.Symbol as step-def
 use Rattle.misra_gries.proofs.steps.step.Symbol.{name as #step}
@@ -61,13 +61,13 @@ module _ {M : Type 1} (𝓤 : URA M) (H : Heap 𝓤) (A : Atoms 𝓤) (W : Given
 
   -- the contracts: this function's, and those that the proof cites
   abbrev Tallies : Contract 𝓤
-  Tallies = tripleFor 𝓤 H A step-tallied.ended c
+  Tallies = contractOf 𝓤 H A step-tallied.ended c
 
   abbrev Steps : Contract 𝓤
-  Steps = tripleFor 𝓤 H A step.ended (step.clauses 𝓤 H A mem run)
+  Steps = contractOf 𝓤 H A step.ended (step.clauses 𝓤 H A mem run)
 
   abbrev Notes : Contract 𝓤
-  Notes = tripleFor 𝓤 H A noted.ended (noted.clauses 𝓤 H A mem run)
+  Notes = contractOf 𝓤 H A noted.ended (noted.clauses 𝓤 H A mem run)
 
   module _ (κs : Lfts 7) (qs : Shares 7) (a : Args step-tallied.signature κs) where
     -- the tally's reference, and the tally at entry
@@ -128,24 +128,17 @@ module _ {M : Type 1} (𝓤 : URA M) (H : Heap 𝓤) (A : Atoms 𝓤) (W : Given
           alloc1 ! (λ l₁₇. alloc1 ! (λ l₁₈. alloc0 ! $ params1 ! $
           pass1 ! (init ! 34 refl (tt, tt)) $
           pass1 ! (init ! 32 refl (tt, record { fits = are .0 .1 })) $
-          pass1 ! (init ! 30 refl (tt, (tt, (record { fits = are .1 .0 .0 .1 .0 }, tt)))) $
-          pass1 ! (init ! 28 refl (tt, (tt, (record { fits = are .1 .1 .0 .0 .1 .0 }, tt)))) $
-          pass1 ! (init ! 26 refl (tt, (tt, (record { fits = are .1 .1 .1 .0 .0 .1 .0 }, tt)))) $
-          pass1 ! (init ! 24 refl (tt, (tt, (record { fits = are .1 .1 .1 .1 .0 .0 .1 .0 }, tt)))) $
-          pass1 ! (init ! 22 refl (tt, (tt, (record { fits = are .1 .1 .1 .1 .1 .0 .0 .1 .0 }, tt)))) $
-          pass1 ! (init ! 20 refl (tt, (tt, (record { fits = are .1 .1 .1 .1 .1 .1 .0 .0 .1 .0 }, tt)))) $
+          pass1 ! (init ! 30 refl (fits (are .1 .0 .0 .1 .0))) $ pass1 ! (init ! 28 refl (fits (are .1 .1 .0 .0 .1 .0))) $ pass1 ! (init ! 26 refl (fits (are .1 .1 .1 .0 .0 .1 .0))) $
+          pass1 ! (init ! 24 refl (fits (are .1 .1 .1 .1 .0 .0 .1 .0))) $ pass1 ! (init ! 22 refl (fits (are .1 .1 .1 .1 .1 .0 .0 .1 .0))) $ pass1 ! (init ! 20 refl (fits (are .1 .1 .1 .1 .1 .1 .0 .0 .1 .0))) $
           pass1 ! (init ! 18 refl (LL.lawful E.the-type E′.the-laws 𝓤 H A W .typed (a .1 .1 .1 .1 .1 .1 .1 .1 .0) _ (are .1 .1 .1 .1 .1 .1 .1 .0) .0)) $ pass0 ! $
           -- [room for _18; …; room for _10; …; _9; …; _1; …; room for _0; …; what `step` asks; the tally's ghost value; its borrow; its token]
           -- each `&mut` list is lent on: its pointer, then the pointer with the count
           assigns ! (addr ! (from ! (fld ! refl (hop ! (look-in ! 24 (sub ! 0 refl (whole !))) (stop !))))) (from ! (stop !)) (init ! 14 refl (tt, tt)) $
-          assigns ! (agg ! (and-then ! (local-at ! 14 refl) (and-then ! (load ! (from ! (fld ! refl (stop !))) (look-in ! 24 (sub ! 1 refl (whole !)))) (no-more !))))
-          (from ! (stop !)) (init ! 12 refl (tt, (tt, (record { fits = are .1 .1 .1 .1 .0 .0 .1 .0 }, tt)))) $
+          assigns ! (agg ! (and-then ! (local-at ! 14 refl) (and-then ! (field-at ! 24 1 (whole !) refl refl) (no-more !)))) (from ! (stop !)) (init ! 12 refl (fits (are .1 .1 .1 .1 .0 .0 .1 .0))) $
           assigns ! (addr ! (from ! (fld ! refl (hop ! (look-in ! 22 (sub ! 0 refl (whole !))) (stop !))))) (from ! (stop !)) (init ! 10 refl (tt, tt)) $
-          assigns ! (agg ! (and-then ! (local-at ! 10 refl) (and-then ! (load ! (from ! (fld ! refl (stop !))) (look-in ! 22 (sub ! 1 refl (whole !)))) (no-more !))))
-          (from ! (stop !)) (init ! 8 refl (tt, (tt, (record { fits = are .1 .1 .1 .1 .1 .0 .0 .1 .0 }, tt)))) $
+          assigns ! (agg ! (and-then ! (local-at ! 10 refl) (and-then ! (field-at ! 22 1 (whole !) refl refl) (no-more !)))) (from ! (stop !)) (init ! 8 refl (fits (are .1 .1 .1 .1 .1 .0 .0 .1 .0))) $
           assigns ! (addr ! (from ! (fld ! refl (hop ! (look-in ! 20 (sub ! 0 refl (whole !))) (stop !))))) (from ! (stop !)) (init ! 6 refl (tt, tt)) $
-          assigns ! (agg ! (and-then ! (local-at ! 6 refl) (and-then ! (load ! (from ! (fld ! refl (stop !))) (look-in ! 20 (sub ! 1 refl (whole !)))) (no-more !))))
-          (from ! (stop !)) (init ! 4 refl (tt, (tt, (record { fits = are .1 .1 .1 .1 .1 .1 .0 .0 .1 .0 }, tt)))) $
+          assigns ! (agg ! (and-then ! (local-at ! 6 refl) (and-then ! (field-at ! 20 1 (whole !) refl refl) (no-more !)))) (from ! (stop !)) (init ! 4 refl (fits (are .1 .1 .1 .1 .1 .1 .0 .0 .1 .0))) $
           move ! (38 ∷ []) $ call-of ! fm step.ended (step.clauses 𝓤 H A mem run) known-step to-step _ (λ r ws. id⊢ 𝓤 _)
           (and-then ! (local-at ! 33 refl) (and-then ! (local-at ! 31 refl) (and-then ! (local-at ! 29 refl) (and-then ! (local-at ! 27 refl)
           (and-then ! (local-at ! 13 refl) (and-then ! (local-at ! 9 refl) (and-then ! (local-at ! 5 refl) (and-then ! (local-at ! 19 refl) (no-more !))))))))) (λ u r ws stepped is-r.

@@ -13,18 +13,15 @@ use prog.Memory.{Memory}
 use prog.Routine.{Routine}
 use prog.Wp.{Heap, Calls, Loops, WpFn, Tables}
 use ghost.Atoms.{Atoms}
-use contract.Lifetimes.{Lfts}
 use contract.Monad.{Fun, factI}
 use contract.Running.{givenOf, tables, tablesOf}
 use types.Kit.{Given, ‵, raw, _$_, _∵_, !, qed, by, move, use2, fsplit, drop}
-use types.Part.{whole, sub, look-in, agg}
-use types.Run.{look, init, forget, stop, fld, from, load, of-opd, and-then, no-more}
-use types.Run.{assigns, returns, enter, alloc1, alloc0, params1, pass1, pass0, free1, free0}
+use types.Part.{agg, whole}
+use types.Run.{look, init, stop, from, of-opd, and-then, no-more, assigns, returns, enter, alloc1, alloc0, params1, pass1, pass0}
 use denote.RattleType.{RattleType, owns}
 use denote.Plain.{uint-vals, uint-tells}
 use denote.Builtin.{usize}
 use denote.Signature.{namedLft}
-use denote.Struct.Declared.{Declared}
 use denote.Struct.Laws as LL
 use denote.Struct.Rest.{own-put}
 use denote.Triple.Clauses.{Clauses}
@@ -32,20 +29,14 @@ use denote.Triple.Entry.{alive, onEntry}
 use denote.Triple.Spec.{Meets, tripleOf}
 use denote.Triple.Table.{entered}
 use Rattle.edge_walk.specs.declared.walk.EdgeWalk.{EdgeWalk}
-use Rattle.edge_walk.proofs.walk.Hand.{contractOf, meets-by, ends, read-local}
+use Rattle.edge_walk.proofs.Hand.{contractOf, meets-from, ends, local-at, field-at, free-all}
+use Rattle.edge_walk.proofs.walk.Held.{D, L}
 use Rattle.edge_walk.proofs.walk.EdgeWalk as T
 use Rattle.edge_walk.proofs.walk.EdgeWalk.Laws as T′
 use Rattle.edge_walk.proofs.walk.EdgeWalk.moved.Key.{name as #moved}
 use Rattle.edge_walk.proofs.walk.EdgeWalk.moved as moved
 use Rattle.edge_walk.proofs.walk.EdgeWalk.moved.Statement as stated
 use Rattle.edge_walk.proofs.walk.EdgeWalk.moved.Code as code
-
--- the struct's type and laws, over the signature's lifetimes
-abbrev D : Lfts 1 → Declared
-D κs = T.the-type (namedLft 1 0 tt κs)
-
-abbrev L : (κs : Lfts 1) → LL.Laws (D κs)
-L κs = T′.the-laws (namedLft 1 0 tt κs)
 
 module _ {M : Type 1} (𝓤 : URA M) (H : Heap 𝓤) (A : Atoms 𝓤) (W : Given 𝓤 H A) (mem : Memory → SProp 𝓤) (run : Routine → Fun 𝓤) where
   abbrev c : Clauses 𝓤 moved.ended
@@ -80,17 +71,16 @@ module _ {M : Type 1} (𝓤 : URA M) (H : Heap 𝓤) (A : Atoms 𝓤) (W : Given
         alloc1 ! (λ l₀. alloc1 ! (λ l₁. alloc1 ! (λ l₂. alloc1 ! (λ l₃. alloc0 ! $ params1 ! $
         pass1 ! (init ! 4 refl typed) $ pass1 ! (init ! 2 refl (tt, record { fits = fits })) $ pass0 ! $
         -- [room for _3; …; _2; …; _1; …; room for _0; …; what is had at entry]
-        assigns ! (of-opd ! (load ! (from ! (fld ! refl (stop !))) (look-in ! 4 (sub ! 0 refl (whole !))))) (from ! (stop !))
-        (init ! 0 refl (tt, typed .1 .0)) $
-        assigns ! (agg ! (and-then ! (read-local ! 0 refl) (and-then ! (read-local ! 2 refl) (no-more !)))) (from ! (stop !))
+        assigns ! (of-opd ! (field-at ! 4 0 (whole !) refl refl)) (from ! (stop !)) (init ! 0 refl (tt, typed .1 .0)) $
+        assigns ! (agg ! (and-then ! (local-at ! 0 refl) (and-then ! (local-at ! 2 refl) (no-more !)))) (from ! (stop !))
         (init ! 6 refl (tt, (typed .1 .0, (record { fits = fits }, tt)))) $
-        returns ! (look ! 6 refl) $ forget ! 0 refl $ forget ! 2 refl $ forget ! 4 refl $ forget ! 6 refl $
-        move ! (6 ∷ 7 ∷ 4 ∷ 5 ∷ 2 ∷ 3 ∷ []) $ free1 ! $ free1 ! $ free1 ! $ free1 ! $ free0 ! $ by ! exits))))
+        returns ! (look ! 6 refl) $ move ! (8 ∷ []) $ free-all ! 1 (_, (_, (_, (_, tt)))) refl $ by ! exits))))
 
   meets : (𝓣 : Tables 𝓤 H) → Meets 𝓤 H A moved.signature (WpFn 𝓤 H (𝓣 .C) (𝓣 .Λ) code.function) (moved.spec 𝓤 H A mem run)
-  meets 𝓣 = meets-by 𝓤 H A moved.ended c (WpFn 𝓤 H (𝓣 .C) (𝓣 .Λ) code.function)
+  meets 𝓣 = meets-from 𝓤 H A moved.ended c (WpFn 𝓤 H (𝓣 .C) (𝓣 .Λ) code.function)
       (λ κs. (LL.vals (D κs) (L κs), (uint-vals w64, tt))) (λ κs. (LL.tells (D κs) (L κs), (uint-tells w64, tt)))
-      (λ κs qs bounds a g are. walk (κs .0) (qs .0) (a .0) (a .1 .0) (are .1 .0 .1) (𝓣 .C) (𝓣 .Λ)
+      (λ κs a g. Unit {0}) (λ κs a g. factI 𝓤 _ _ tt)
+      (λ κs qs bounds a g asked are. walk (κs .0) (qs .0) (a .0) (a .1 .0) (are .1 .0 .1) (𝓣 .C) (𝓣 .Λ)
       (LL.lawful (D κs) (L κs) 𝓤 H A W .typed (a .0) _ (are .0) .0))
 
 pub moved-spec : {M : Type 1} → stated.statement M

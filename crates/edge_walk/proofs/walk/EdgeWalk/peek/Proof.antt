@@ -1,4 +1,4 @@
--- `EdgeWalk::peek` meets its contract: a walk of its MIR, by hand. The struct is taken apart, and `step_at` is called on its fields.
+-- `EdgeWalk::peek` meets its contract: a walk of its MIR, by hand. The struct is taken apart, and `step_at` is call-of on its fields.
 -- `step_at` takes the fields in their order, so what they own together is what it asks.
 use mathlib.Core.Path.{_≡_, refl}
 use mathlib.Core.List.{[], _∷_}
@@ -12,20 +12,16 @@ use prog.Memory.{Memory}
 use prog.Routine.{Routine}
 use prog.Wp.{Heap, Calls, Loops, WpFn, Tables}
 use ghost.Atoms.{Atoms}
-use contract.Lifetimes.{Lfts}
 use contract.Monad.{Fun, factI}
 use contract.Running.{givenOf, tables, tablesOf}
 use types.Kit.{Given, ‵, raw, given, _$_, _∵_, !, qed, by, move, use1, learn, fsplit, drop, join, frame, done}
-use types.Part.{whole, sub, look-in}
-use types.Run.{look, init, forget, stop, fld, from, load, of-opd, and-then, no-more}
-use types.Run.{assigns, returns, enter, alloc1, alloc0, params1, pass1, pass0, free1, free0}
+use types.Part.{whole}
+use types.Run.{look, init, stop, from, of-opd, and-then, no-more, assigns, returns, enter, alloc1, alloc0, params1, pass1, pass0}
 use sound.WpLaws.{FmC, fmOf}
 use denote.RattleType.{owns}
-use denote.Ref.{now}
 use denote.Signature.{namedLft}
 use denote.Slice.{slice-vals}
 use denote.Enum.Laws as EL
-use denote.Struct.Declared.{Declared}
 use denote.Struct.Laws as LL
 use denote.Struct.Rest.{all-own, own-open}
 use denote.Triple.Clauses.{Clauses}
@@ -33,10 +29,9 @@ use denote.Triple.Entry.{alive, onEntry}
 use denote.Triple.Spec.{Meets, tripleOf}
 use denote.Triple.Statement.{Contract, Triple}
 use denote.Triple.Table.{entered, cited}
-use Rattle.edge_walk.specs.Walk.{stepAt}
 use Rattle.edge_walk.specs.declared.walk.EdgeWalk.{EdgeWalk}
-use Rattle.edge_walk.specs.declared.walk.WalkStep.{WalkStep}
-use Rattle.edge_walk.proofs.walk.Hand.{contractOf, meets-by, called, ends, read-local, set-local}
+use Rattle.edge_walk.proofs.Hand.{contractOf, meets-from, call-of, ends, local-at, field-at, land-at, free-all}
+use Rattle.edge_walk.proofs.walk.Held.{D, L}
 use Rattle.edge_walk.proofs.walk.EdgeWalk as T
 use Rattle.edge_walk.proofs.walk.EdgeWalk.Laws as T′
 use Rattle.edge_walk.proofs.walk.WalkStep as S
@@ -49,13 +44,6 @@ use Rattle.edge_walk.proofs.walk.EdgeWalk.peek.Key.{name as #peek}
 use Rattle.edge_walk.proofs.walk.EdgeWalk.peek as peek
 use Rattle.edge_walk.proofs.walk.EdgeWalk.peek.Statement as stated
 use Rattle.edge_walk.proofs.walk.EdgeWalk.peek.Code as code
-
--- the struct's type and laws, over the signature's lifetimes
-abbrev D : Lfts 1 → Declared
-D κs = T.the-type (namedLft 1 0 tt κs)
-
-abbrev L : (κs : Lfts 1) → LL.Laws (D κs)
-L κs = T′.the-laws (namedLft 1 0 tt κs)
 
 module _ {M : Type 1} (𝓤 : URA M) (H : Heap 𝓤) (A : Atoms 𝓤) (W : Given 𝓤 H A) (mem : Memory → SProp 𝓤) (run : Routine → Fun 𝓤) where
   abbrev c : Clauses 𝓤 peek.ended
@@ -93,25 +81,22 @@ module _ {M : Type 1} (𝓤 : URA M) (H : Heap 𝓤) (A : Atoms 𝓤) (W : Given
           alloc1 ! (λ l₀. alloc1 ! (λ l₁. alloc1 ! (λ l₂. alloc1 ! (λ l₃. alloc0 ! $ params1 ! $
           pass1 ! (init ! 4 refl typed) $ pass0 ! $
           -- [room for _3; …; room for _2; …; _1; …; room for _0; …; what is had at entry]
-          assigns ! (of-opd ! (load ! (from ! (fld ! refl (stop !))) (look-in ! 4 (sub ! 0 refl (whole !))))) (from ! (stop !))
-          (init ! 2 refl (tt, typed .1 .0)) $
-          assigns ! (of-opd ! (load ! (from ! (fld ! refl (stop !))) (look-in ! 4 (sub ! 1 refl (whole !))))) (from ! (stop !))
-          (init ! 0 refl (tt, typed .1 .1 .0)) $
+          assigns ! (of-opd ! (field-at ! 4 0 (whole !) refl refl)) (from ! (stop !)) (init ! 2 refl (tt, typed .1 .0)) $
+          assigns ! (of-opd ! (field-at ! 4 1 (whole !) refl refl)) (from ! (stop !)) (init ! 0 refl (tt, typed .1 .1 .0)) $
           move ! (8 ∷ []) $ use1 W (raw (StepAt .pre to)) asks $
-          called ! fm step-at.ended (step-at.clauses 𝓤 H A mem run) known to
-          (λ (r : WalkStep). r ≡ stepAt (now (d .entries)) (d .at)) (λ r ws. id⊢ 𝓤 _)
-          (and-then ! (read-local ! 3 refl) (and-then ! (read-local ! 1 refl) (no-more !))) (λ u r found is.
+          call-of ! fm step-at.ended (step-at.clauses 𝓤 H A mem run) known to _ (λ r ws. id⊢ 𝓤 _)
+          (and-then ! (local-at ! 3 refl) (and-then ! (local-at ! 1 refl) (no-more !))) (λ u r ws found is. move ! (2 ∷ []) $ drop ! $
           -- [what the result owns; the token; _3; …; _2; …; _1; …; room for _0; …]
-          set-local ! 8 refl (EL.lawful S.the-type S′.the-laws 𝓤 H A W tt .typed r _ is .0) $
-          returns ! (look ! 8 refl) $ forget ! 2 refl $ forget ! 4 refl $ forget ! 6 refl $ forget ! 8 refl $
-          move ! (8 ∷ 9 ∷ 6 ∷ 7 ∷ 4 ∷ 5 ∷ 2 ∷ 3 ∷ []) $ free1 ! $ free1 ! $ free1 ! $ free1 ! $ free0 ! $
+          land-at ! 8 refl (EL.lawful S.the-type S′.the-laws 𝓤 H A W tt .typed r _ is .0) $
+          returns ! (look ! 8 refl) $ free-all ! 2 (_, (_, (_, (_, tt)))) refl $
           by ! (ends 𝓤 H A peek.ended c y W u r (tt, tt) (tt, tt) (tt, tt) (factI 𝓤 _ (emp 𝓤) found)))))))
 
   meets : (𝓣 : Tables 𝓤 H) → Triple 𝓤 (𝓣 .C #step-at) StepAt
       → Meets 𝓤 H A peek.signature (WpFn 𝓤 H (𝓣 .C) (𝓣 .Λ) code.function) (peek.spec 𝓤 H A mem run)
-  meets 𝓣 known = meets-by 𝓤 H A peek.ended c (WpFn 𝓤 H (𝓣 .C) (𝓣 .Λ) code.function)
+  meets 𝓣 known = meets-from 𝓤 H A peek.ended c (WpFn 𝓤 H (𝓣 .C) (𝓣 .Λ) code.function)
       (λ κs. (LL.vals (D κs) (L κs), tt)) (λ κs. (LL.tells (D κs) (L κs), tt))
-      (λ κs qs bounds a g are. walk (κs .0) (qs .0) (a .0) (𝓣 .C) (𝓣 .Λ) (fmOf 𝓤 H (W .laws) 𝓣) known
+      (λ κs a g. Unit {0}) (λ κs a g. factI 𝓤 _ _ tt)
+      (λ κs qs bounds a g asked are. walk (κs .0) (qs .0) (a .0) (𝓣 .C) (𝓣 .Λ) (fmOf 𝓤 H (W .laws) 𝓣) known
       (LL.lawful (D κs) (L κs) 𝓤 H A W .typed (a .0) _ (are .0) .0))
 
 pub peek-spec : {M : Type 1} → stated.statement M
