@@ -21,24 +21,19 @@ abbrev μ-loop : tie.MeasureT-loop
 
 -- At an edge: its far end, and the place after it.
 loop-again : tie.Need-loop-again Inv-loop μ-loop
-loop-again c = let at-far-end = c .before .before .before in let at-edge = at-far-end .before .before in let at-edge-at = at-edge .before .before in
-    let edge = step-far _ _ _ _ _ _ _ _ (at-edge-at .edge-at .ensures) (at-edge .edge .given .1) (at-far-end .far-end .ensures) in search (needs, seen-more, seen-room)
+loop-again c = let edge = step-far _ _ _ _ _ _ _ _ (c .before .before .before .before .before .before .before .edge-at .ensures) (c .before .before .before .before .before .edge .given .1) (c .before .before .before .far-end .ensures) in search (needs, seen-more, seen-room)
 
 returns-2 : tie.Need-returns-2 Inv-loop μ-loop
-returns-2 c = let at-far-end = c .before .before .before in let at-edge = at-far-end .before .before in let at-edge-at = at-edge .before .before in
-    let edge = step-far _ _ _ _ _ _ _ _ (at-edge-at .edge-at .ensures) (at-edge .edge .given .1) (at-far-end .far-end .ensures) in search (needs, seen-twice)
+returns-2 c = let edge = step-far _ _ _ _ _ _ _ _ (c .before .before .before .before .before .before .before .edge-at .ensures) (c .before .before .before .before .before .edge .given .1) (c .before .before .before .far-end .ensures) in search (needs, seen-twice)
 
 slice-read-if1 : tie.Need-slice-read-if1 Inv-loop μ-loop
-slice-read-if1 c = let at-edge = c .before .before .before .before in let at-edge-at = at-edge .before .before in
-    let edge = step-far _ _ _ _ _ _ _ _ (at-edge-at .edge-at .ensures) (at-edge .edge .given .1) (c .before .before .far-end .ensures) in search (needs, seen-room)
+slice-read-if1 c = let edge = step-far _ _ _ _ _ _ _ _ (c .before .before .before .before .before .before .edge-at .ensures) (c .before .before .before .before .edge .given .1) (c .before .before .far-end .ensures) in search (needs, seen-room)
 
 slice-write-seen : tie.Need-slice-write-seen Inv-loop μ-loop
-slice-write-seen c = let at-far-end = c .before .before .before in let at-edge = at-far-end .before .before in let at-edge-at = at-edge .before .before in
-    let edge = step-far _ _ _ _ _ _ _ _ (at-edge-at .edge-at .ensures) (at-edge .edge .given .1) (at-far-end .far-end .ensures) in search (needs, seen-room)
+slice-write-seen c = let edge = step-far _ _ _ _ _ _ _ _ (c .before .before .before .before .before .before .before .edge-at .ensures) (c .before .before .before .before .before .edge .given .1) (c .before .before .before .far-end .ensures) in search (needs, seen-room)
 
 loop-less : tie.Need-loop-less Inv-loop μ-loop
-loop-less c = let at-far-end = c .before .before .before in let at-edge = at-far-end .before .before in let at-edge-at = at-edge .before .before in
-    let edge = step-far _ _ _ _ _ _ _ _ (at-edge-at .edge-at .ensures) (at-edge .edge .given .1) (at-far-end .far-end .ensures) in omega arith
+loop-less c = let edge = step-far _ _ _ _ _ _ _ _ (c .before .before .before .before .before .before .before .edge-at .ensures) (c .before .before .before .before .before .edge .given .1) (c .before .before .before .far-end .ensures) in omega arith
 
 -- At the end of the walk.
 returns : tie.Need-returns Inv-loop μ-loop
