@@ -6,23 +6,23 @@ use native.Mathlib.Numerals.{add-one}
 use lib.ListN.{length, getD, take, set, length-set, drop, drop-of-length-le, replicate, length-replicate, getD-replicate}
 use lib.Seq.{take-suc, set-out, take-length, getD-set-same, getD-set-other, drop-cons}
 use borrow.Author.Tests.{eq-eqb, ne-eqb, lt-ltb, le-ltb, ltb-true, eqb-true}
+use mathlib.Core.Logic.{inl, inr}
+use native.Mathlib.Omega.{arith}
+use mathlib.Core.Bool.{Bool, true, false, _||_, false≢true, cond}
+use native.Mathlib.Nat.{le-refl}
+use lib.Dec.{eqb, ltb}
 use Rattle.lists.proofs.MemberLaws.{map-append, dec-mem, mem-getD}
 use Rattle.items.specs.declared.Kind.{Kind}
 use Rattle.items.specs.Items.{firstNode, secondNode, acrossOf}
 use Rattle.color_marks.specs.Marks.{acrossAll, along, around, stored, hasColor, standsAt, stands, markOf, Asked, usedMarks}
-use mathlib.Core.Logic.{inl, inr}
-use native.Mathlib.Omega.{arith}
 use Rattle.lists.specs.Member.{Mem, elem}
-use mathlib.Core.Bool.{Bool, true, false, _||_, false≢true, cond}
-use native.Mathlib.Nat.{le-refl}
-use lib.Dec.{eqb, ltb}
 use Rattle.lists.proofs.Tests.{and-true, and-false, or-true, true-or, dec-eq}
 use Rattle.graph.specs.Colored.{colorOf}
 use Rattle.graph.proofs.ColorLaws.{color-read}
 use Rattle.graph.specs.Stretch.{stretch}
 use Rattle.graph.specs.Color.{noColor}
 
--- ---- Laws of what specs/Around defines.
+-- ---- the items around one
 
 pub across-more : (kind : Kind) (ends : List ℕ) (w : ℕ) (ks : List ℕ) (i : ℕ) → i < length ks
     → acrossAll kind ends w (take (i + 1) ks) ≡ acrossAll kind ends w (take i ks) ++ acrossOf kind ends (getD ks i 0) w ∷ []
@@ -38,7 +38,7 @@ module _ (kind : Kind) (ends starts entries : List ℕ) where
   unfolding around
   around-two v a b p q n = rw (← p, ← q, ne-eqb a b n)
 
--- ---- Laws of what specs/Stored defines.
+-- ---- what is stored for them
 
 module _ (f : ℕ → ℕ) where
   pub stored-append : (us ws marks : List ℕ) → stored f (us ++ ws) marks ≡ stored f ws (stored f us marks)
@@ -85,7 +85,7 @@ module _ (f : ℕ → ℕ) where
       pub along-all : i ≤ length ks → length ks ≤ i → marks ≡ stored f (acrossAll kind ends w ks) marks₀
       along-all h k = let e : i ≡ length ks = omega arith in p ∙ rw (e, take-length ks)
 
--- ---- Laws of what specs/Standing defines.
+-- ---- where a colour stands
 
 module _ (kind : Kind) (ends colors : List ℕ) (c w : ℕ) where
   -- ---- which item it is
@@ -142,8 +142,6 @@ module _ (kind : Kind) (ends colors : List ℕ) (c w : ℕ) where
       pub stands-other : standsAt kind ends colors c w (drop i ks) ≡ false → (getD colors v 0 ≡ c → ⊥) → standsAt kind ends colors c w (drop (i - 1) ks) ≡ false
       unfolding hasColor
       stands-other p n = past p (rw (ne-eqb (getD colors v 0) c n) (and-false (ltb v (length colors)) false refl))
-
--- ---- Laws of what specs/Marks defines.
 
 module _ (kind : Kind) (ends starts entries colors : List ℕ) (c : ℕ) where
   -- ---- as the code asks
@@ -212,7 +210,7 @@ module _ (kind : Kind) (ends starts entries : List ℕ) (v a b : ℕ) (p : a ≡
     unfolding along
     both-stored n others y marks′ m′ = rw (around-two kind ends starts entries v a b p q n, ← x, ← y, stored-append f (acrossAll kind ends a edges) (acrossAll kind ends b others) marks₀, ← m) m′
 
--- ---- Laws of what specs/Used defines.
+-- ---- the marks of a colour that is used
 
 module _ (kind : Kind) (ends starts entries colors : List ℕ) (c v : ℕ) (marks : List ℕ) where
   pub used-yes : elem c colors ≡ true → (usedMarks kind ends starts entries colors c v marks) ≡ stored (markOf kind ends starts entries colors c) (around kind ends starts entries v) marks

@@ -3,12 +3,12 @@ use Prim.Native.Nat.{ℕ, _<_}
 use mathlib.Core.List.{List, _++_, map, [], _∷_}
 use mathlib.Core.Bool.{cond, Bool, false, _&&_, _||_}
 use lib.Dec.{eqb, ltb}
-use Rattle.graph.specs.Stretch.{stretch}
-use Rattle.items.specs.declared.Kind.{Kind}
-use Rattle.items.specs.Items.{firstNode, secondNode, acrossOf}
 use lib.ListN.{set, length, getD}
 use mathlib.Core.Path.{_≡_}
 use mathlib.Core.Logic.{_≢_}
+use Rattle.graph.specs.Stretch.{stretch}
+use Rattle.items.specs.declared.Kind.{Kind}
+use Rattle.items.specs.Items.{firstNode, secondNode, acrossOf}
 use Rattle.graph.specs.Color.{noColor}
 use Rattle.lists.specs.Member.{elem}
 

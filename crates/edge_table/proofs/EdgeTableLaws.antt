@@ -5,7 +5,6 @@ use mathlib.Core.Option.{none, some}
 use mathlib.Core.Bool.{Bool, true, false}
 use lib.ListN.{getD, length, List·getD-eq-default}
 use lib.Dec.{eqb}
-use Rattle.vizing.specs.MisraGries.{isNone}
 use mathlib.Core.Path.{_≡_, refl, sym, ap, _∙_}
 use mathlib.Core.Logic.{inl, inr, _≢_}
 use native.Mathlib.Omega.{arith}
@@ -13,6 +12,7 @@ use native.Mathlib.Decide.{decLt}
 use native.Mathlib.Nat.{not-suc-le-zero}
 use native.Mathlib.Numerals.{add-one}
 use borrow.Author.Tests.{eq-eqb, ne-eqb, lt-ltb, le-ltb}
+use Rattle.vizing.specs.MisraGries.{isNone}
 use Rattle.lists.proofs.Tests.{dec-eq}
 use Rattle.edge_table.specs.EdgeTable.{noEdge, edgeOfEntry, entryAt, tableEdge, isEmpty, emptyFrom, smallestEmpty}
 

@@ -10,7 +10,7 @@ use Rattle.edge_table.specs.declared.EdgeOfColor.{EdgeOfColor}
 use Rattle.edge_table.specs.declared.EdgeOfColor.the-variants.{Edge, Nothing}
 use Rattle.graph.specs.Colored.{colorOf}
 
--- ---- The edge table as a list: what stands at its places, and what each function answers. There is a row for each of 576 colours, and in it a place for each of 512 nodes: colour c's place for node v is c * 512 + v.
+-- The edge table as a list: what stands at its places, and what each function answers. There is a row for each of 576 colours, and in it a place for each of 512 nodes: colour c's place for node v is c * 512 + v.
 
 -- ---- entries
 

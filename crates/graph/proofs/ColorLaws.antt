@@ -18,8 +18,6 @@ use Rattle.graph.specs.Color.{noColor, daysOf, smallestFrom, smallestFre
 use Rattle.graph.specs.Edges.{keep}
 use Rattle.graph.specs.Colored.{colorOf, isColored, coloredAmong, smallestFreeAt}
 
--- ---- Laws of what specs/Color defines.
-
 -- What is known of the smallest free colour: nothing else is used of it.
 pub record SmallestFree (cs : List ℕ) (c : ℕ) : Type 0 where
   pub free : Mem c cs → ⊥
@@ -113,7 +111,7 @@ pub days-all : (cs : List ℕ) (i d : ℕ) → d ≡ daysOf (drop i cs) → i �
 days-all cs zero d e h = e
 days-all cs (suc i) d e h = absurd (omega arith)
 
--- ---- Laws of colours in a list: stores, who is coloured, and the smallest free colour.
+-- Laws of colours in a list: stores, who is coloured, and the smallest free colour.
 
 -- ---- colours of places
 

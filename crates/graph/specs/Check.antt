@@ -5,9 +5,9 @@ use mathlib.Core.Bool.{Bool, true, false, not, _&&_}
 use mathlib.Core.Option.{Option, none, some}
 use lib.ListN.{length, getD}
 use lib.Dec.{ltb, eqb}
+use mathlib.Core.Path.{_≡_}
 use Rattle.lists.specs.Search.{allBelow}
 use Rattle.graph.specs.Report.{Report, accepted, refused}
-use mathlib.Core.Path.{_≡_}
 use Rattle.graph.specs.Edges.{edgeCount}
 
 -- A test that refuses by a number where it holds.

@@ -28,7 +28,7 @@ use Rattle.graph.specs.Edges.{edgeCount}
 use Rattle.graph.specs.Table.{over}
 use Rattle.graph_file.specs.Layout.{LaidOut, FileReader}
 
--- ---- Laws of reading field by field: one for each answer of the code.
+-- Laws of reading field by field: one for each answer of the code.
 
 -- ---- one field
 
@@ -197,7 +197,7 @@ module _ (bytes : List ℕ) where
         nodes-read h k₁ k₂ n s a t =
             t ∙ sym (from-fields h ∙ after-first ∙ simp (eq-eqb (p .tag) 1 k₁, eq-eqb (length (take (p .length) (drop (p .start) bytes))) 2 (field-size bytes p (inside p q) ∙ k₂), nodes-number k₂ ∙ sym s))
 
--- ---- Laws of the call: one for each answer, and what a reader relies on.
+-- ---- laws of the call: one for each answer, and what a reader relies on
 
 -- n, m and the tags.
 abbrev Sizes : Type 0

@@ -7,6 +7,8 @@ use native.Mathlib.Omega.{arith}
 use lib.ListN.{length, getD, take, drop, set, length-append, take-append-drop}
 use lib.Seq.{take-length, length-take-le, take-append-seam, drop-append-seam}
 use borrow.Author.Tests.{lt-ltb, le-ltb, ltb-false, eq-eqb, eqb-true}
+use mathlib.Core.Option.{Option, none, some, bind, Option·none-ne-some}
+use lib.Dec.{ltb, eqb}
 use Rattle.lists.proofs.Tests.{true-and, by-test, and-true}
 use Rattle.lists.specs.Search.{allBelow}
 use Rattle.lists.proofs.SearchLaws.{all-below-cons, all-below-append}
@@ -14,11 +16,9 @@ use Rattle.lists.proofs.PartsLaws.{copied-next}
 use Rattle.graph.specs.Table.{over}
 use Rattle.graph_file.specs.File.{number16, numbers, Field, firstField, fieldsUpTo, fields, File, isEnds, afterNodes, isNodes, numberOf, graphOf, mostBytes, fileOf, tagBit}
 use Rattle.graph_file.specs.Layout.{bytes16, bytesOf, fieldBytes, graphBytes, LaidOut}
-use mathlib.Core.Option.{Option, none, some, bind, Option·none-ne-some}
-use lib.Dec.{ltb, eqb}
 use Rattle.graph.specs.Edges.{edgeCount}
 
--- ---- Laws of numbers of two bytes: each is read back from its bytes, and bytes from their numbers.
+-- ---- laws of numbers of two bytes: each is read back from its bytes, and bytes from their numbers
 
 pub length-numbers : (bytes : List ℕ) → length (numbers bytes) ≡ length bytes / 2
 unfolding numbers
@@ -85,7 +85,7 @@ all-copied bytes lent list i e h k =
     let p : i ≡ length (numbers bytes) = omega (arith, length-numbers bytes) in
     rw (e, p, take-length (numbers bytes))
 
--- ---- Laws of fields: where one stands in the bytes, and what follows from the first one.
+-- ---- laws of fields: where one stands in the bytes, and what follows from the first one
 
 pub first-truncated : (tag low high : ℕ) (rest : List ℕ) → length rest < number16 low high → firstField (tag ∷ low ∷ high ∷ rest) ≡ none
 unfolding firstField
@@ -201,7 +201,7 @@ fields-more (b ∷ bytes) made h k = go (firstField (b ∷ bytes))
         last none = refl
         last (some fs) = k field fs
 
--- ---- Laws of laid out files: what is read is laid out, and what is laid out is read back.
+-- Laws of laid out files: what is read is laid out, and what is laid out is read back.
 
 -- ---- what is laid out is read back
 

@@ -7,6 +7,8 @@ use mathlib.Core.Path.{_≡_, ap, _∙_, refl, sym, subst}
 use lib.Dec.{eqb}
 use lib.ListN.{length, replicate, length-replicate}
 use borrow.Author.Tests.{eq-eqb, ne-eqb, eqb-true, not-false}
+use mathlib.Core.Logic.{inl, inr}
+use native.Mathlib.Omega.{arith}
 use Rattle.lists.proofs.Tests.{by-test, and-true, dec-eq}
 use Rattle.graph.specs.Report.{accepted, refused, number, reportOfChecked, Report, Accepted}
 use Rattle.graph.specs.Check.{Check, _gives_, firstRefusal, graphChecks, checkGraph, Passed, lengthCheck}
@@ -18,8 +20,6 @@ use Rattle.graph.specs.declared.Graph.{Graph}
 use Rattle.graph.specs.declared.Checked.{Checked}
 use Rattle.graph.specs.declared.Checked.the-variants as C
 use Rattle.greedy.specs.Call.{Rule, itemChecks, checkItems, greedyItems, checkNodes, greedyNodes, edgeNeighbors, checkEdges, greedyEdges, greedyItemsPlain, greedyNodesPlain, greedyEdgesPlain, PrecoloringKept, ProperNodeColoring, ProperEdgeColoring}
-use mathlib.Core.Logic.{inl, inr}
-use native.Mathlib.Omega.{arith}
 use Rattle.lists.specs.Member.{Mem}
 use Rattle.graph.proofs.EdgeLaws.{far-first}
 use Rattle.graph.proofs.NeighborLaws.{edge-neighbor}
@@ -27,7 +27,7 @@ use Rattle.graph.proofs.ColorLaws.{color-replicate}
 use Rattle.greedy.specs.Greedy.{Neighborhood, Greedy}
 use Rattle.greedy.proofs.TurnLaws.{node-neighborhood, edge-neighborhood, sharing-neighbor}
 
--- ---- Laws of the checks and of the calls: one for each answer.
+-- Laws of the checks and of the calls: one for each answer.
 
 -- ---- the checks
 
@@ -150,7 +150,7 @@ pub edges-yes : (rule : Rule) (n : ℕ) (ends presets lent : List ℕ) (c : Chec
 unfolding checkEdges greedyEdges
 edges-yes rule n ends presets lent c g e p = items-yes (edgeNeighbors n ends) (edgeCount ends) n ends presets lent c e rule g p
 
--- ---- What the callers rely on follows from the outcome, for every strategy whose colours are greedy; and the form without presets.
+-- ---- what the callers rely on follows from the outcome, for every strategy whose colours are greedy; and the form without presets
 
 -- A strategy whose colours are greedy.
 abbrev pub GreedyRule : Rule → Type 0

@@ -7,6 +7,8 @@ use mathlib.Core.Path.{_≡_, sym, ap, _∙_, refl, subst}
 use native.Mathlib.Nat.{not-suc-le-zero}
 use native.Mathlib.Omega.{arith}
 use lib.ListN.{length, set, length-set, length-map}
+use lib.Dec.{eqb}
+use borrow.Author.Tests.{ne-eqb}
 use Rattle.lists.proofs.Tests.{by-test, dec-eq}
 use Rattle.lists.specs.Member.{Mem, Nodup}
 use Rattle.lists.proofs.MemberLaws.{mem-append, mem-append-left, mem-append-right, nodup-append, nodup-bound, pigeonhole, mem-map, cover-bound, member-distinct}
@@ -15,10 +17,8 @@ use Rattle.graph.specs.Color.{noColor}
 use Rattle.graph.specs.Colored.{colorOf, isColored, smallestFreeAt}
 use Rattle.graph.proofs.ColorLaws.{is-colored-false, uncolored-false, color-set-same, color-set-other, smallest-free-bound, smallest-free-color, smallest-none-has, smaller-stands}
 use Rattle.greedy.specs.Turn.{uncolored, colorItem}
-use lib.Dec.{eqb}
 use Rattle.greedy.specs.Greedy.{Neighborhood, Greedy}
 use Rattle.greedy.specs.Degree.{colorInOrder}
-use borrow.Author.Tests.{ne-eqb}
 use Rattle.lists.specs.Different.{distinct, different}
 use Rattle.graph.specs.Check.{Passed}
 use Rattle.graph.proofs.CheckLaws.{passed-inside}
@@ -28,7 +28,7 @@ use Rattle.line_list.proofs.LineNeighborLaws.{line-neighbors, pair-ends-inside,
 use Rattle.graph.proofs.NeighborLaws.{neighbor-inside, neighbor-symmetric, neighbor-times, passed-neighbor, passed-degree}
 use Rattle.greedy.specs.Call.{edgeNeighbors}
 
--- ---- Laws of the items without a colour.
+-- ---- laws of the items without a colour
 
 -- One item more, with or without a colour.
 pub last-uncolored : (colors : List ℕ) (n : ℕ) → colorOf colors n ≡ noColor → uncolored colors (suc n) ≡ uncolored colors n ++ n ∷ []
@@ -83,7 +83,7 @@ uncolored-less colors n v c l p d =
           elim (dec-eq k v) [ inl e ↦ rw e p | inr e ↦ member-uncolored colors n k (s .0) (sym (color-set-other colors v c k e) ∙ s .1) ]
     ])
 
--- ---- Laws of colouring turn by turn: what holds of the colours so far.
+-- ---- laws of colouring turn by turn: what holds of the colours so far
 
 -- Those of these items that are not v: its other neighbours, for its own loop makes an item a neighbour of itself.
 unfoldable pub others : ℕ → List ℕ → List ℕ
@@ -230,7 +230,7 @@ module _ (nb : ℕ → List ℕ) (n : ℕ) (hood : Neighborhood nb n) where
         | inr d ↦ λ z. d (sym (r .0 .kept v d) ∙ z)
       ])
 
--- ---- The neighbours of a graph's nodes, and how great an item's colour can be.
+-- ---- the neighbours of a graph's nodes, and how great an item's colour can be
 
 pub node-neighborhood : (n : ℕ) (ends : List ℕ) → Passed n ends → Neighborhood (neighbors ends (edgeCount ends)) n
 node-neighborhood n ends p = record {

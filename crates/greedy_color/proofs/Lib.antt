@@ -1,2 +1,2 @@
--- Laws of what specs/ defines.
+-- That each strategy's call follows its rule.
 pub mod Rules

@@ -4,21 +4,21 @@ use mathlib.Core.Bool.{true, false, Bool}
 use mathlib.Core.List.{List, [], _∷_, _++_, reverse, reverse-cons, map, append-assoc, append-nil}
 use mathlib.Core.Path.{_≡_, refl, sym, ap, subst, _∙_}
 use native.Mathlib.Omega.{arith}
+use lib.ListN.{length, getD, drop, take}
+use lib.Seq.{drop-cons, drop-length, take-all}
+use native.Mathlib.Nat.{not-suc-le-zero}
+use native.Mathlib.Numerals.{add-one}
+use lib.Dec.{eqb, ltb}
+use borrow.Author.Tests.{eqb-true}
 use Rattle.lists.proofs.Tests.{by-test}
 use Rattle.graph.specs.Check.{Passed}
 use Rattle.graph.specs.Edges.{edgeCount, neighbors, farEnd, firstEnd, secondEnd, isLoop, edgesAt}
 use Rattle.greedy.specs.Call.{edgeNeighbors}
 use Rattle.independent_set.specs.declared.items.Items.{Items}
 use Rattle.independent_set.specs.Items.{neighborsOf, countOf, ItemsTabled}
-use lib.ListN.{length, getD, drop, take}
-use lib.Seq.{drop-cons, drop-length, take-all}
 use Rattle.greedy.specs.IndependentSet.{Lists, putOff, putOffAll}
 use Rattle.independent_set.specs.Listing.{ListsHeld, listsAt}
 use Rattle.independent_set.proofs.ListingLaws.{lists-held}
-use native.Mathlib.Nat.{not-suc-le-zero}
-use native.Mathlib.Numerals.{add-one}
-use lib.Dec.{eqb, ltb}
-use borrow.Author.Tests.{eqb-true}
 use Rattle.lists.specs.Member.{Mem}
 use Rattle.lists.proofs.MemberLaws.{mem-map, mem-getD}
 use Rattle.graph.proofs.CheckLaws.{passed-inside}
@@ -28,11 +28,9 @@ use Rattle.graph.specs.Stretch.{stretch}
 use Rattle.line_list.specs.LineNeighbors.{laterAt, earlierAt, higherEnd, lowerEnd, lineNeighbors}
 use Rattle.line_list.proofs.LineNeighborLaws.{loop-neighbors, apart-neighbors}
 use Rattle.line_list.proofs.PairLaws.{before-member, after-member}
-use Rattle.line_parts.specs.Parts.{partIn, partAt}
+use Rattle.line_parts.specs.Parts.{partIn, atTurn, partAt}
 use Rattle.line_parts.proofs.PartsLaws.{ends-cases}
 use Rattle.greedy.proofs.TurnLaws.{edge-neighbors}
-
--- ---- Laws of what specs/Items defines.
 
 pub items-few : (items : Items) (ends : List ℕ) → Passed (items .nodes) ends → items .count ≡ countOf items ends → items .count ≤ 4096
 unfolding countOf
@@ -57,7 +55,7 @@ pub edges-neighbors : (items : Items) (ends : List ℕ) (k : ℕ) → items .edg
 unfolding neighborsOf
 edges-neighbors items ends k e = rw e
 
--- ---- Putting off edges in a row.
+-- ---- putting off edges in a row
 
 pub put-off-append : (s : Lists) (xs ys : List ℕ) → putOffAll s (xs ++ ys) ≡ putOffAll (putOffAll s xs) ys
 unfolding putOffAll
@@ -83,7 +81,7 @@ module _ (m : ℕ) (s : Lists) (listed place next : List ℕ) (len end : ℕ) wh
       let e : suc (i - 1) ≡ i = omega arith in
       rw (drop-cons edges (i - 1) 0 (omega arith), put-off-last s (drop (suc (i - 1)) edges) (getD edges (i - 1) 0), e, ← p) (rw (lists-held m listed place next len end (putOffAll s (reverse (drop i edges))) h) at k)
 
--- ---- Putting off the neighbours of an item, as the code goes over them: of a node the far ends of its edges, of an edge the parts of the edges at its ends.
+-- Putting off the neighbours of an item, as the code goes over them: of a node the far ends of its edges, of an edge the parts of the edges at its ends.
 
 -- ---- the neighbours of a node
 
@@ -146,7 +144,7 @@ module _ (items : Items) (ends starts entries : List ℕ) (k : ℕ) (kind : item
   row-lower = known .table .row (lowerEnd ends k) (ends-cases (λ (x y : ℕ). y < items .nodes) ends k (passed-inside (items .nodes) ends (known .passed) k less .0) (passed-inside (items .nodes) ends (known .passed) k less .1))
 
   pub part-below : (turn : ℕ) (part : List ℕ) → part ≡ partAt (stretch starts entries) ends k turn → (j : ℕ) → Mem j part → j < items .count
-  unfolding partAt
+  unfolding partAt atTurn
   part-below turn part e j m =
       let p : Mem j (partAt (stretch starts entries) ends k turn) = subst (Mem j) e m in
       rw (edges-count items ends starts entries known kind) (by-test (eqb (turn % 2) 0)
@@ -156,7 +154,7 @@ module _ (items : Items) (ends starts entries : List ℕ) (k : ℕ) (kind : item
       (λ u. part-member (ltb turn 2) ends k (lowerEnd ends k) j (rw (t, u, row-lower) at p))))
 
   parts-line : partsTo (stretch starts entries) ends k 4 ≡ lineNeighbors ends (edgeCount ends) k
-  unfolding partsTo partAt partIn laterAt earlierAt
+  unfolding partsTo partAt atTurn partIn laterAt earlierAt
   parts-line = rw (row-higher, row-lower) (by-test (isLoop ends k)
       (λ t. rw (t, loop-higher ends k t) (simp append-nil (sym (loop-neighbors ends (edgeCount ends) k t))))
       (λ t. rw t (simp append-assoc (simp append-assoc at (sym (apart-neighbors ends (edgeCount ends) k t))))))

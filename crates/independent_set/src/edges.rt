@@ -11,8 +11,6 @@ ghost use Rattle.independent_set.specs.Listing.{ListsHeld, listsAt};
 use crate::items::Items;
 use crate::list::Counts;
 use crate::list::put_off;
-use edge_walk::edges_at;
-use edge_walk::end_at;
 use graph::EdgeIndex;
 use line_graph::node_of_edge;
 use line_parts::part_at;

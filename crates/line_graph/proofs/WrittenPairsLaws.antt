@@ -6,17 +6,17 @@ use native.Mathlib.Nat.{add-zero, zero-add, mul-suc, suc-mul, mul-le-mul}
 use native.Mathlib.Omega.{arith}
 use lib.ListN.{length, getD, take, drop, set, take-append-drop, length-append, length-drop}
 use lib.Seq.{drop-cons, set-at, take-at, drop-append-add, drop-drop, length-take-le, take-all, take-suc, take-length, drop-length}
-use Rattle.graph.specs.Table.{over}
-use Rattle.line_graph.specs.WrittenPairs.{placed, pairsBelow}
 use mathlib.Core.Logic.{inl, inr}
 use native.Mathlib.Numerals.{add-one}
+use Rattle.graph.specs.Table.{over}
+use Rattle.line_graph.specs.WrittenPairs.{placed, pairsBelow}
 use Rattle.lists.proofs.Tests.{dec-eq}
 use Rattle.lists.specs.Parts.{part}
 use Rattle.graph.specs.Edges.{edgeCount}
 use Rattle.graph.specs.Stretch.{stretch, Table}
 use Rattle.line_list.specs.LineList.{pairsWith, pairsOf, linePairs}
 
--- ---- Laws of what specs/Placed defines.
+-- ---- a list placed in another
 
 pub placed-none : (l : List ℕ) (at : ℕ) → placed l at [] ≡ l
 unfolding placed
@@ -72,7 +72,7 @@ writing-more before part l more l′ at place place′ w h e p = record {
   held = e ∙ (ap (λ (r : List ℕ). placed r place more) (w .held) ∙ placed-append before part more at place (w .next) h);
 }
 
--- ---- Laws of the pairs as the code counts and writes them.
+-- Laws of the pairs as the code counts and writes them.
 
 -- ---- what stands after some turns of each loop
 

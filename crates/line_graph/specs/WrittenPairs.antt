@@ -11,7 +11,7 @@ use Rattle.line_list.specs.LineList.{pairsOf}
 unfoldable pub placed : List ℕ → ℕ → List ℕ → List ℕ
 placed l at part = take at l ++ (part ++ drop (at + length part) l)
 
--- ---- The pairs of the nodes below one, as the code writes them.
+-- The pairs of the nodes below one, as the code writes them.
 
 -- ---- what stands after some turns of each loop
 

@@ -12,9 +12,10 @@ use lib.Dec.{eqb, ltb}
 use borrow.Author.Tests.{eq-eqb, ne-eqb, lt-ltb, le-ltb}
 use Rattle.lists.proofs.Tests.{by-test, dec-eq}
 use Rattle.graph.specs.Edges.{firstEnd, secondEnd, isLoop}
+use Rattle.graph.specs.Stretch.{bounds, stretch}
 use Rattle.line_list.specs.LineNeighbors.{beforeIn, afterIn, higherEnd, lowerEnd}
 use Rattle.greedy.specs.IndependentSet.{placeOf}
-use Rattle.line_parts.specs.Parts.{partIn, partAt}
+use Rattle.line_parts.specs.Parts.{partIn, partFrom, atTurn, partAt, partStart}
 
 -- ---- the place of an edge
 
@@ -75,6 +76,18 @@ module _ (later : Bool) (k at : ℕ) (l : List ℕ) (e : at ≡ placeOf k l) whe
   pub cut-before : later ≡ false → take at l ≡ partIn later k l
   cut-before t = rw (t, e) (part-before k l)
 
+  pub from-after : later ≡ true → at < length l → partFrom later k l ≡ at + 1
+  unfolding partFrom
+  from-after t h = rw (t, ← e, lt-ltb at (length l) h)
+
+  pub from-none : later ≡ true → length l ≤ at → partFrom later k l ≡ 0
+  unfolding partFrom
+  from-none t h = rw (t, ← e, le-ltb at (length l) h)
+
+  pub from-before : later ≡ false → partFrom later k l ≡ 0
+  unfolding partFrom
+  from-before t = rw t
+
   pub cut-inside : at ≡ length (take at l)
   cut-inside = sym (length-take-le at l (omega (arith, place-inside k l)))
 
@@ -101,17 +114,45 @@ other-apart : (ends : List ℕ) (k : ℕ) → (higherEnd ends k ≡ lowerEnd end
 unfolding isLoop
 other-apart ends k = ends-cases (λ (a b : ℕ). (a ≡ b → ⊥) → isLoop ends k ≡ false) ends k (λ d. ne-eqb (firstEnd ends k) (secondEnd ends k) (λ e. d (sym e))) (λ d. ne-eqb (firstEnd ends k) (secondEnd ends k) d)
 
--- ---- the part of a turn as the code finds it
+-- ---- what is said of a turn, as the code finds it
 
-module _ (at : ℕ → List ℕ) (ends : List ℕ) (k turn a b : ℕ) (edges part : List ℕ) (p : a ≡ higherEnd ends k) (q : b ≡ lowerEnd ends k) where
-  pub part-higher : turn % 2 ≡ 0 → edges ≡ at a → part ≡ partIn (ltb turn 2) k edges → part ≡ partAt at ends k turn
-  unfolding partAt
-  part-higher t e f = rw (eq-eqb (turn % 2) 0 t, ← p, ← e) f
+module _ {A : Type 0} (none : A) (at : ℕ → A) (ends : List ℕ) (k turn a b : ℕ) (p : a ≡ higherEnd ends k) (q : b ≡ lowerEnd ends k) where
+  pub turn-higher : turn % 2 ≡ 0 → at a ≡ atTurn none at ends k turn
+  unfolding atTurn
+  turn-higher t = rw (eq-eqb (turn % 2) 0 t, p)
 
-  pub part-lower : (turn % 2 ≡ 0 → ⊥) → (a ≡ b → ⊥) → edges ≡ at b → part ≡ partIn (ltb turn 2) k edges → part ≡ partAt at ends k turn
-  unfolding partAt
-  part-lower t d e f = rw (ne-eqb (turn % 2) 0 t, other-apart ends k (λ r. d (p ∙ (r ∙ sym q))), ← q, ← e) f
+  pub turn-lower : (turn % 2 ≡ 0 → ⊥) → (a ≡ b → ⊥) → at b ≡ atTurn none at ends k turn
+  unfolding atTurn
+  turn-lower t d = rw (ne-eqb (turn % 2) 0 t, other-apart ends k (λ r. d (p ∙ (r ∙ sym q))), q)
 
-pub part-none : (at : ℕ → List ℕ) (ends : List ℕ) (k turn a b : ℕ) → a ≡ higherEnd ends k → b ≡ lowerEnd ends k → (turn % 2 ≡ 0 → ⊥) → a ≡ b → [] ≡ partAt at ends k turn
-unfolding partAt
-part-none at ends k turn a b p q t e = rw (ne-eqb (turn % 2) 0 t, same-loop ends k (sym p ∙ (e ∙ q)))
+  pub turn-none : (turn % 2 ≡ 0 → ⊥) → a ≡ b → none ≡ atTurn none at ends k turn
+  unfolding atTurn
+  turn-none t e = rw (ne-eqb (turn % 2) 0 t, same-loop ends k (sym p ∙ (e ∙ q)))
+
+-- The part of a turn and where it stands, given the edges at the node and where these stand.
+module _ (starts entries ends : List ℕ) (k turn a b : ℕ) (p : a ≡ higherEnd ends k) (q : b ≡ lowerEnd ends k) where
+  abbrev part : ℕ → List ℕ
+  part v = partIn (ltb turn 2) k (stretch starts entries v)
+
+  abbrev from : ℕ → ℕ
+  from v = bounds starts entries v .start + partFrom (ltb turn 2) k (stretch starts entries v)
+
+  module _ (edges found : List ℕ) (base at place v : ℕ) (e : edges ≡ stretch starts entries v) (s : at ≡ base + 2 * bounds starts entries v .start)
+      (f : found ≡ partIn (ltb turn 2) k edges) (g : place ≡ at + 2 * partFrom (ltb turn 2) k edges) where
+    abbrev Found : Type 0
+    Found = (found ≡ partAt (stretch starts entries) ends k turn) × (place ≡ base + 2 * partStart starts entries ends k turn)
+
+    there : part v ≡ partAt (stretch starts entries) ends k turn → from v ≡ partStart starts entries ends k turn → Found
+    there h i = (f ∙ (ap (partIn (ltb turn 2) k) e ∙ h), omega (arith, g, s, ap (partFrom (ltb turn 2) k) e, i))
+
+    pub part-higher : v ≡ a → turn % 2 ≡ 0 → Found
+    unfolding partAt partStart
+    part-higher z t = there (ap part z ∙ turn-higher [] part ends k turn a b p q t) (ap from z ∙ turn-higher 0 from ends k turn a b p q t)
+
+    pub part-lower : v ≡ b → (turn % 2 ≡ 0 → ⊥) → (a ≡ b → ⊥) → Found
+    unfolding partAt partStart
+    part-lower z t d = there (ap part z ∙ turn-lower [] part ends k turn a b p q t d) (ap from z ∙ turn-lower 0 from ends k turn a b p q t d)
+
+  pub part-none : (turn % 2 ≡ 0 → ⊥) → a ≡ b → ([] ≡ partAt (stretch starts entries) ends k turn) × (0 ≡ partStart starts entries ends k turn)
+  unfolding partAt partStart
+  part-none t d = (turn-none [] part ends k turn a b p q t d, turn-none 0 from ends k turn a b p q t d)

@@ -1,10 +1,11 @@
 // Of the line list, the part of an edge's neighbours that lie at one of its ends, after the edge or before it: those after it at the
 // higher end, then at the lower, then those before it, the same way. A loop has one end only.
 ghost use mathlib.Core.Path.{_≡_};
+ghost use Prim.Native.Nat.{_+_, _*_};
 ghost use Rattle.graph.specs.Stretch.{stretch};
 ghost use Rattle.line_list.specs.LineNeighbors.{higherEnd, lowerEnd};
 ghost use Rattle.greedy.specs.IndependentSet.{placeOf};
-ghost use Rattle.line_parts.specs.Parts.{partIn, partAt};
+ghost use Rattle.line_parts.specs.Parts.{partIn, partFrom, partAt, partStart};
 use edge_walk::edges_at;
 use edge_walk::end_at;
 use graph::EdgeIndex;
@@ -27,6 +28,8 @@ fn place_of(edges: &[u16], edge: EdgeIndex) -> usize
 // Of these edges those after an edge, or those before it.
 fn part_of<'a>(edges: &'a [u16], edge: EdgeIndex, later: bool) -> &'a [u16]
     ensures contents { λ r. ⌜ now r ≡ partIn later (edge .0) (now (edges .entry)) ⌝ }
+    ensures place { λ r. let edges₀ = now (edges .entry) in
+        ⌜ (r .ptr .0 ≡ edges .entry .ptr .0) × (r .ptr .1 ≡ edges .entry .ptr .1 + 2 * partFrom later (edge .0) edges₀) ⌝ }
 {
     let at = place_of(edges, edge);
     if later {
@@ -62,7 +65,7 @@ fn ends_of(ends: &[u16], edge: EdgeIndex) -> EdgeEnds
     }
 }
 
-// One of the four parts of the edges that share an end with an edge, in the order of the line list.
+// One of the four parts of the edges that share an end with an edge, in the order of the line list; of a turn from 4 on, a part before the edge again.
 pub fn part_at<'a>(
     ends: &[u16],
     starts: &[u16],
@@ -72,6 +75,9 @@ pub fn part_at<'a>(
 ) -> &'a [u16]
     ensures contents { λ r. let starts = now (starts .entry) in let entries = now (entries .entry) in let ends = now (ends .entry) in
         ⌜ now r ≡ partAt (stretch starts entries) ends (edge .0) turn ⌝ }
+    ensures place { λ r. let starts = now (starts .entry) in let entries₀ = now (entries .entry) in let ends = now (ends .entry) in
+        ⌜ (r .ptr .0 ≡ entries .entry .ptr .0)
+        × (r .ptr .1 ≡ entries .entry .ptr .1 + 2 * partStart starts entries₀ ends (edge .0) turn) ⌝ }
 {
     let both = ends_of(ends, edge);
     let later = turn < 2;

@@ -13,8 +13,6 @@ use Rattle.lists.proofs.Tests.{by-test, dec-eq, or-true, or-false}
 use Rattle.lists.specs.Member.{Mem, Nodup, elem}
 use Rattle.lists.specs.Different.{distinct, different, count}
 
--- ---- Laws of what specs/Member defines.
-
 pub elem-true : (k : ℕ) (xs : List ℕ) → elem k xs ≡ true → Mem k xs
 unfolding elem
 elem-true k [] e = absurd (false≢true e)
@@ -133,8 +131,6 @@ map-mem f c (j ∷ ks) (inr p) = let r = map-mem f c ks p in (r .0, inr (r .1), 
 pub map-append : (f : ℕ → ℕ) (js ks : List ℕ) → map f (js ++ ks) ≡ map f js ++ map f ks
 map-append f [] ks = refl
 map-append f (j ∷ js) ks = ap (λ (l : List ℕ). f j ∷ l) (map-append f js ks)
-
--- ---- Laws of what specs/Different defines.
 
 pub distinct-member : (xs : List ℕ) (k : ℕ) → Mem k (distinct xs) → Mem k xs
 unfolding distinct

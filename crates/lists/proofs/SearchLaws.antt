@@ -5,20 +5,18 @@ use mathlib.Core.List.{List, [], _∷_, _++_}
 use mathlib.Core.Path.{_≡_, refl, ap₂, sym, ap, _∙_}
 use lib.Dec.{eqb, ltb}
 use borrow.Author.Tests.{eqb-true, eq-eqb, lt-ltb, le-ltb, ltb-true}
-use Rattle.lists.proofs.Tests.{by-test, and-true, true-and, dec-eq, and-right, and-false, and-assoc, or-false}
-use Rattle.lists.specs.Equal.{equal}
 use mathlib.Core.Logic.{inl, inr}
 use native.Mathlib.Omega.{arith}
 use native.Mathlib.Nat.{not-suc-le-zero}
 use lib.ListN.{length, getD, length-append, List·getD-append, take, drop, drop-of-length-le}
 use lib.Seq.{getD-append-seam, take-all, drop-cons}
-use Rattle.lists.specs.Tabulate.{tabulate}
 use native.Mathlib.Numerals.{add-one}
+use mathlib.Core.Option.{Option, none, some, Option·none-ne-some, Option·some-injective}
+use Rattle.lists.proofs.Tests.{by-test, and-true, true-and, dec-eq, and-right, and-false, and-assoc, or-false}
+use Rattle.lists.specs.Equal.{equal}
+use Rattle.lists.specs.Tabulate.{tabulate}
 use Rattle.lists.specs.Search.{allBelow, any, firstThat}
 use Rattle.lists.specs.Member.{Mem}
-use mathlib.Core.Option.{Option, none, some, Option·none-ne-some, Option·some-injective}
-
--- ---- Laws of what specs/Equal defines.
 
 pub equal-true : (xs ys : List ℕ) → equal xs ys ≡ true → xs ≡ ys
 unfolding equal
@@ -32,8 +30,6 @@ unfolding equal
 equal-self [] = refl
 equal-self (x ∷ xs) = true-and (eqb x x) (equal xs xs) (eq-eqb x x refl) (equal-self xs)
 
--- ---- Laws of what specs/Tabulate defines.
-
 pub length-tabulate : (f : ℕ → ℕ) (n : ℕ) → length (tabulate f n) ≡ n
 unfolding tabulate
 length-tabulate f zero = refl
@@ -46,8 +42,6 @@ tabulate-at f (suc n) i h = elim (dec-eq i n) [
   | inl p ↦ rw p (ap (λ (j : ℕ). getD (tabulate f n ++ (f n ∷ [])) j 0) (sym (length-tabulate f n)) ∙ getD-append-seam (tabulate f n) (f n) [] 0)
   | inr q ↦ List·getD-append (tabulate f n) (f n ∷ []) 0 i (rw (length-tabulate f n) (omega arith)) ∙ tabulate-at f n i (omega arith)
 ]
-
--- ---- Laws of what specs/Search defines.
 
 pub all-below-at : (n : ℕ) (xs : List ℕ) → allBelow n xs ≡ true → (i : ℕ) → i < length xs → getD xs i 0 < n
 unfolding allBelow

@@ -8,6 +8,9 @@ use native.Mathlib.Omega.{arith}
 use lib.Dec.{ltb}
 use lib.ListN.{length, take, replicate, length-append, drop}
 use borrow.Author.Tests.{ltb-true}
+use mathlib.Core.Bool.{true}
+use lib.Seq.{take-append-seam}
+use native.Mathlib.Decide.{decLt}
 use Rattle.lists.specs.Member.{Mem}
 use Rattle.lists.proofs.MemberLaws.{place-of}
 use Rattle.graph.specs.Check.{firstRefusal, graphChecks, numbersPass}
@@ -22,8 +25,6 @@ use Rattle.vizing.proofs.Theorem.{max-degree-bound, passed-admitted, demand3, m
 use Rattle.vizing.proofs.DefinitionLaws.{some-or-none}
 use Rattle.matchday_text.specs.Text.{followed, decimal, line, edgeLine, edgeLines, daysText, refusedText, reportText, outcomeText, coloredText, daysWord, refusedWord, space, lineFeed, fileText, digits}
 use Rattle.matchday_text.proofs.PutLaws.{decimal-length, put-front}
-use mathlib.Core.Bool.{true}
-use lib.Seq.{take-append-seam}
 use Rattle.lists.specs.Parts.{copiedOver}
 use Rattle.lists.specs.Search.{allBelow}
 use Rattle.graph.specs.Report.{number, reportOfColoring}
@@ -36,7 +37,6 @@ use Rattle.graph_file.proofs.LayoutLaws.{read-laid, laid-out, read-bytes}
 use Rattle.graph_file.specs.declared.FileAnswer.{FileAnswer}
 use Rattle.graph_file.specs.declared.FileAnswer.the-variants as F
 use Rattle.matchday_text.specs.Put.{Put, Room}
-use native.Mathlib.Decide.{decLt}
 use Rattle.lists.proofs.PartsLaws.{take-replicate}
 use Rattle.graph.specs.declared.Coloring.{Coloring}
 use Rattle.graph.specs.declared.Coloring.the-variants as O
@@ -45,7 +45,7 @@ use Rattle.vizing.specs.Demand3Examples.{listP13}
 use Rattle.vizing.proofs.ClauseLaws.{p13-admitted, p13-colors, runs}
 use Rattle.matchday_text.specs.Examples.{exampleFile, exampleText, example-file, example-lines, ExamplePrinted, EmptyFileRefused}
 
--- ---- How long a text can be: numbers below 100,000 have five digits, and there are at most 4,096 edges.
+-- How long a text can be: numbers below 100,000 have five digits, and there are at most 4,096 edges.
 
 -- ---- lines
 
@@ -161,7 +161,7 @@ pub colored-bound : (n : ℕ) (ends : List ℕ) → length (coloredText n ends) 
 unfolding coloredText
 colored-bound n ends = outcome-bound n ends (replicate (edgeCount ends) noColor)
 
--- ---- Laws of a file's text: what is read is the file's graph, and the text of every file has room in 98,330 bytes.
+-- ---- laws of a file's text: what is read is the file's graph, and the text of every file has room in 98,330 bytes
 
 file-or-none : (o : Option File) → (o ≡ none) ⊎ ((file : File) × (o ≡ some file))
 file-or-none none = inl refl
@@ -244,7 +244,7 @@ module _ (bytes lent : List ℕ) (c : FileAnswer) (ends : List ℕ) (room : leng
     pub read-text : (before after : List ℕ) (end : ℕ) → end ≡ length (coloredText n (take (2 * m) ends)) → after ≡ copiedOver (coloredText n (take (2 * m) ends)) before → (end ≡ length (fileText bytes)) × (after ≡ copiedOver (fileText bytes) before)
     read-text before after end h k = rw read-ends (h, k)
 
--- ---- Laws of a call's text: one for each answer, and the places that are lent.
+-- Laws of a call's text: one for each answer, and the places that are lent.
 
 -- ---- the answers of a call
 
@@ -313,7 +313,7 @@ graph-done n ends m before after end h p q =
     let e = ap (λ (i : ℕ). outcomeText ends (misraGries n ends (take i (replicate 4096 noColor)))) h ∙ lent-places n ends in
     (p ∙ ap length e, q ∙ ap (λ (l : List ℕ). copiedOver l before) e)
 
--- ---- The texts of the examples are those printed there.
+-- ---- the texts of the examples are those printed there
 
 example-colored : coloredText 4 listP13 ≡ exampleText
 unfolding coloredText daysOf

@@ -6,18 +6,18 @@ use native.Mathlib.Omega.{arith}
 use lib.Dec.{ltb}
 use lib.ListN.{length, length-append, set, getD, take}
 use borrow.Author.Tests.{lt-ltb, le-ltb, ltb-true, ltb-false}
-use Rattle.lists.proofs.Tests.{by-test}
-use Rattle.matchday_text.specs.Text.{digits, decimal, followed, space, lineFeed, line, edgeLine, edgeLines, daysWord, daysText, refusedWord, refusedText}
 use lib.Seq.{set-out, take-suc, take-length, length-take-le}
-use Rattle.lists.specs.Parts.{copiedOver}
 use native.Mathlib.Decide.{decLt}
 use native.Mathlib.Numerals.{add-one}
+use Rattle.lists.proofs.Tests.{by-test}
+use Rattle.matchday_text.specs.Text.{digits, decimal, followed, space, lineFeed, line, edgeLine, edgeLines, daysWord, daysText, refusedWord, refusedText}
+use Rattle.lists.specs.Parts.{copiedOver}
 use Rattle.graph.specs.Report.{number}
 use Rattle.graph.specs.Edges.{edgeCount, firstEnd, secondEnd}
 use Rattle.graph.specs.Colored.{colorOf}
 use Rattle.matchday_text.specs.Put.{Put, Room, overwrite}
 
--- ---- Laws of the decimal digits: each number's last digit follows the digits of a tenth of it.
+-- ---- laws of the decimal digits: each number's last digit follows the digits of a tenth of it
 
 -- More places than there are digits change nothing.
 places-enough : (f g x : ℕ) → x < f → x < g → digits f x ≡ digits g x
@@ -76,7 +76,7 @@ pub decimal-said : (x : ℕ) → said 0 (decimal x) ≡ x
 unfolding decimal
 decimal-said x = digits-said (suc x) x (omega arith)
 
--- ---- Laws of the putting functions: for each one that its parts have room, and that they make up its text.
+-- Laws of the putting functions: for each one that its parts have room, and that they make up its text.
 
 -- ---- one byte
 

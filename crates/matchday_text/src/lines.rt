@@ -20,7 +20,7 @@ fn color_at(colors: &[u16], edge: EdgeIndex) -> usize
     if k < colors.len() {
         colors[k] as usize
     } else {
-        Color::NONE
+        Color::NONE as usize
     }
 }
 

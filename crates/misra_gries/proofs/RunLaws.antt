@@ -9,12 +9,12 @@ use lib.ListN.{length, take, getD, replicate, length-replicate}
 use lib.Seq.{length-take-le}
 use lib.Dec.{eqb, ltb}
 use borrow.Author.Tests.{le-ltb, ltb-true, ltb-false, eq-eqb, ne-eqb}
+use native.Mathlib.Numerals.{add-one}
 use Rattle.lists.proofs.Tests.{by-test}
 use Rattle.graph.specs.Color.{daysOf, noColor}
 use Rattle.graph.proofs.ColorLaws.{days-empty, days-colored, color-take}
 use Rattle.graph.specs.Colored.{colorOf}
 use Rattle.vizing.specs.MisraGries.{greatestColor, step, heldAfter, held, find}
-use native.Mathlib.Numerals.{add-one}
 use Rattle.graph.specs.Edges.{edgeCount}
 use Rattle.graph.specs.Stretch.{Table}
 use Rattle.vizing.specs.Demand3.{Admitted}
@@ -31,7 +31,7 @@ use Rattle.misra_gries.proofs.StepLaws.{palette}
 use Rattle.misra_gries.specs.Step.{InRange, Ready, topColor, tallyOf, Tallied, Running}
 use Rattle.edge_table.specs.EdgeTable.{noEdge}
 
--- ---- Days read off the tally: the greatest colour plus one, or 0 where no edge is coloured.
+-- ---- Days read off the tally: the greatest colour plus one, or 0 where no edge is coloured
 
 -- An uncoloured place does not count, a coloured one does.
 greatest-uncolored : (c : ℕ) (cs : List ℕ) → c ≡ noColor → greatestColor (c ∷ cs) ≡ greatestColor cs
@@ -92,7 +92,7 @@ days-read (c ∷ cs) (suc m) h b n =
         let below : j < suc m = omega (arith, length-take-le m cs (omega arith)) in
         n j below (sym (color-take (c ∷ cs) (suc m) j below) ∙ e)
 
--- ---- Laws of what specs/Run defines.
+-- ---- the run
 
 pub run-kept : (n : ℕ) (ends : List ℕ) → Admitted n ends → (k : ℕ) → k ≤ edgeCount ends → Invariant ends (edgeCount ends) (InRange n ends) k (held n ends k)
 unfolding held

@@ -2,18 +2,18 @@
 use Prim.Native.Nat.{ℕ, zero, suc, _<_, _+_, _-_, _*_, _≤_}
 use mathlib.Core.List.{List, [], _∷_, _++_}
 use native.Mathlib.Omega.{arith}
-use Rattle.graph.specs.Edges.{edgeCount, firstEnd, secondEnd, farEnd, edgesAt, degree}
-use Rattle.vizing.specs.Demand3.{Admitted, maxDegree}
-use Rattle.vizing.proofs.Theorem.{degree-max, max-degree-bound, max-degree-attained}
-use Rattle.vizing.proofs.StepLaws.{Palette, degree-palette, exchange-none, FoundLaws, found-laws, step-keeps}
-use Rattle.vizing.proofs.SimpleLaws.{degree-below}
-use Rattle.misra_gries.specs.Step.{InRange, Ready, Exchanging, Exchanged, Rotating, Rotated, Turning, Turned, topColor, FanReady}
 use mathlib.Core.Path.{_≡_, refl, sym, ap, _∙_}
 use mathlib.Core.Bool.{Bool, true}
 use native.Mathlib.Nat.{min-le-left}
 use lib.ListN.{length, getD, take, drop, length-append, length-take}
 use lib.Seq.{length-take-le, take-append-le}
 use borrow.Author.Tests.{eq-eqb, ne-eqb}
+use Rattle.graph.specs.Edges.{edgeCount, firstEnd, secondEnd, farEnd, edgesAt, degree}
+use Rattle.vizing.specs.Demand3.{Admitted, maxDegree}
+use Rattle.vizing.proofs.Theorem.{degree-max, max-degree-bound, max-degree-attained}
+use Rattle.vizing.proofs.StepLaws.{Palette, degree-palette, exchange-none, FoundLaws, found-laws, step-keeps}
+use Rattle.vizing.proofs.SimpleLaws.{degree-below}
+use Rattle.misra_gries.specs.Step.{InRange, Ready, Exchanging, Exchanged, Rotating, Rotated, Turning, Turned, topColor, FanReady}
 use Rattle.graph.specs.Stretch.{stretch}
 use Rattle.graph.proofs.EdgeLaws.{far-first}
 use Rattle.graph.specs.Colored.{smallestFreeAt}
@@ -31,14 +31,14 @@ use Rattle.recolor.proofs.TablePathLaws.{path-none, path-ended, table-path}
 use Rattle.fan.specs.TablePlaces.{tablePlaces}
 use Rattle.fan.proofs.TablePlacesLaws.{table-places, places-taken}
 
--- ---- The colours from 0 to D: enough for every step, and below the table's width.
+-- ---- the colours from 0 to D: enough for every step, and below the table's width
 
 pub palette : (n : ℕ) (ends : List ℕ) → Admitted n ends → Palette ends (edgeCount ends) n (InRange n ends)
 palette n ends a =
     let m = edgeCount ends in
     degree-palette ends m n (maxDegree ends m n) (omega (arith, max-degree-bound ends m n, a .edges)) (degree-max ends m n)
 
--- D is below the number of nodes, if there are any.
+-- D is below the rows of the edge table, as it is below the number of nodes if there are any.
 pub max-degree-below : (n : ℕ) (ends : List ℕ) → Admitted n ends → maxDegree ends (edgeCount ends) n < 576
 unfolding maxDegree
 max-degree-below zero ends a = omega arith
@@ -47,7 +47,7 @@ max-degree-below (suc n) ends a =
     let r = max-degree-attained ends m (suc n) (omega arith) in
     omega (arith, r .2, degree-below ends m (suc n) (a .simple) (a .inside) (r .0) (r .1), a .nodes)
 
--- ---- Laws of the step's parts, as the code has them: the path exchanged, the fan rotated, steps 2 to 5.
+-- Laws of the step's parts, as the code has them: the path exchanged, the fan rotated, steps 2 to 5.
 
 -- ---- the path exchanged
 

@@ -4,12 +4,12 @@ use mathlib.Core.Path.{_≡_}
 use mathlib.Core.Logic.{_≢_}
 use mathlib.Core.List.{List}
 use lib.ListN.{length, getD, drop}
+use mathlib.Core.Bool.{cond}
+use lib.Dec.{eqb, ltb}
 use Rattle.graph.specs.Edges.{firstEnd, edgesAt, edgeCount, secondEnd}
 use Rattle.graph.specs.Color.{noColor}
 use Rattle.vizing.specs.MisraGries.{isFree, fanOf, path, exchange, store, Found, find, step, heldAfter, held}
 use Rattle.edge_table.specs.EdgeTable.{isEmpty, exchangedColors, rotatedColors}
-use mathlib.Core.Bool.{cond}
-use lib.Dec.{eqb, ltb}
 use Rattle.graph.specs.Stretch.{Table}
 use Rattle.vizing.specs.Demand3.{Admitted, maxDegree}
 use Rattle.vizing.specs.Step.{Invariant}

@@ -36,6 +36,7 @@ pub(crate) fn grow(
     let mut next = edge;
     let mut len = 0;
     let mut lo = 0;
+    // never full: a fan has at most as many edges as its node
     while len < out.len() {
         out[len] = next.0;
         set_mark(marks, next, stamp);

@@ -12,6 +12,7 @@ ghost use Rattle.vizing.specs.MisraGries.{held, misraGries};
 ghost use Rattle.vizing.specs.Demand3.{Admitted};
 ghost use Rattle.vizing.specs.Clause.{VizingColoring};
 use edge_table::EdgeTable;
+use edge_table::Entry;
 use graph::Checked;
 use graph::Color;
 use graph::Coloring;
@@ -52,7 +53,7 @@ fn color_simple(
     ensures colors { λ _. let ends = now (ends .entry) in ⌜ now (colors .exit) ≡ take (edgeCount ends) (held n ends (edgeCount ends)) ⌝ }
 {
     let mut work = [Color::NONE; Graph::MAX_EDGES];
-    let mut table = [Color::NONE; EdgeTable::PLACES];
+    let mut table = [Entry::NONE; EdgeTable::PLACES];
     let mut marks = [0u16; Graph::MAX_EDGES];
     let tally = run(n, ends, starts, entries, &mut work, &mut table, &mut marks);
     let m = ends.len() / 2;

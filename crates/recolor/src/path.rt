@@ -28,6 +28,7 @@ pub fn follow(
     let mut color = first;
     let mut other = second;
     let mut len = 0;
+    // never full where out has a place for each node: no node comes twice
     while len < out.len() {
         let EdgeOfColor::Edge(edge) = edge_of_color(table, end, color) else {
             return len;

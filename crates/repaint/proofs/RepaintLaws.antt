@@ -6,6 +6,11 @@ use mathlib.Core.List.{List, [], _∷_, map}
 use native.Mathlib.Omega.{arith}
 use native.Mathlib.Decide.{decLt}
 use lib.ListN.{getD, replicate, length-replicate, getD-replicate, List·getD-eq-default, set, length, drop, length-set, drop-of-length-le, length-map, length-append}
+use native.Mathlib.Numerals.{add-one}
+use lib.Seq.{drop-cons, set-out, getD-set-same, getD-set-other, set-set, set-comm}
+use borrow.Author.Tests.{lt-ltb, le-ltb, ne-eqb}
+use mathlib.Core.Option.{some}
+use lib.Dec.{eqb}
 use Rattle.lists.specs.Member.{Mem, Nodup}
 use Rattle.graph.specs.Edges.{edgesAt, firstEnd, secondEnd, At, farEnd}
 use Rattle.graph.proofs.EdgeLaws.{edge-at, at-edge}
@@ -17,12 +22,7 @@ use Rattle.vizing.proofs.DefinitionLaws.{none-has-none, is-free-true, is-free-f
 use Rattle.edge_table.specs.EdgeTable.{noEdge, entryAt, isEmpty, smallestEmpty, edgeOfEntry, tableEdge, exchangedColors, rotatedColors}
 use Rattle.repaint.specs.Repaint.{State, state, entered, enteredAtEnds, uncolored, colored, allUncolored, allColored, repainted, FitsTable, TableOf, Repaintable}
 use Rattle.edge_table.proofs.EdgeTableLaws.{entry-place, no-place, reads-none, FirstEmpty, first-empty, reads-edge}
-use native.Mathlib.Numerals.{add-one}
-use lib.Seq.{drop-cons, set-out, getD-set-same, getD-set-other, set-set, set-comm}
-use borrow.Author.Tests.{lt-ltb, le-ltb, ne-eqb}
 use Rattle.lists.proofs.Tests.{dec-eq}
-use mathlib.Core.Option.{some}
-use lib.Dec.{eqb}
 use Rattle.lists.proofs.SearchLaws.{first-that-same}
 use Rattle.vizing.specs.Coloring.{Free, Proper}
 use Rattle.vizing.proofs.AlternatingPath.{color-edge, uncolor-edge, swap-left, swap-right, Exchanged, path-edge, exchange-proper, exchange-colored}
@@ -32,7 +32,7 @@ use Rattle.vizing.proofs.StepForm.{rotatePlaces, stepParts, step-form}
 use Rattle.vizing.specs.Step.{Invariant}
 use Rattle.vizing.proofs.StepLaws.{FoundLaws}
 
--- ---- When a list is the edge table of a working list, that it is so at the start, and what it then answers.
+-- ---- when a list is the edge table of a working list, that it is so at the start, and what it then answers
 
 -- The table beside the working list is its table.
 abbrev pub HasTable : List ℕ → ℕ → State → Type 0
@@ -95,7 +95,7 @@ module _ (ends : List ℕ) (m : ℕ) (l T : List ℕ) (L : TableOf ends m l T) w
       used : (b : ℕ) → b < c → (k : ℕ) × Mem k ks × (colorOf l k ≡ b)
       used b less = is-free-false l ks b (sym (says-free v b (λ z. omega (arith, F .bound))) ∙ F .smaller b less)
 
--- ---- Laws of what is entered in the table, one edge after the other.
+-- Laws of what is entered in the table, one edge after the other.
 
 -- ---- what is entered
 
@@ -206,7 +206,7 @@ pub repaint-leaves : (ends : List ℕ) (s s′ s″ : State) (ks cs : List ℕ) 
 unfolding repainted
 repaint-leaves ends s s′ s″ ks cs p q = rw (q, p)
 
--- ---- The edge table stays the table of the working list when an edge loses or takes a colour.
+-- The edge table stays the table of the working list when an edge loses or takes a colour.
 
 -- ---- the edge of a colour
 
@@ -335,7 +335,7 @@ module _ (ends : List ℕ) (m : ℕ) (l T : List ℕ) (L : TableOf ends m l T) (
       says = colored-says;
     }
 
--- ---- Edges take new colours in place of their own: the edge table stays the table of the working list.
+-- Edges take new colours in place of their own: the edge table stays the table of the working list.
 
 -- ---- the working list
 
@@ -460,7 +460,7 @@ module _ (ends : List ℕ) (m : ℕ) where
     repaint-done l′ T′ e =
         leaves-table ends m (store l ks cs) l′ T′ (repainted ends (state l T) ks cs) e (repainted-work ends (state l T) ks cs (R .same-length) (R .nodup)) repaint-keeps
 
--- ---- The exchange of a path and the rotation of a fan are each one repaint.
+-- ---- the exchange of a path and the rotation of a fan are each one repaint
 
 module _ (ends : List ℕ) (m : ℕ) (l T : List ℕ) (L : TableOf ends m l T) (l′ T′ : List ℕ) where
   pub exchange-done : (c d : ℕ) (ks : List ℕ) → Repaintable ends m l ks (exchangedColors l c d ks)

@@ -6,6 +6,8 @@ use mathlib.Core.List.{List, [], _∷_, map}
 use native.Mathlib.Omega.{arith}
 use lib.ListN.{length, set, length-map, getD}
 use borrow.Author.Tests.{eq-eqb}
+use mathlib.Core.Bool.{Bool, true, _||_, cond}
+use native.Mathlib.Decide.{decLt}
 use Rattle.lists.proofs.Tests.{by-test, dec-eq, true-or}
 use Rattle.lists.specs.Member.{Mem, elem}
 use Rattle.lists.proofs.MemberLaws.{dec-mem, mem-map, map-mem, pigeonhole, distinct-nodup, distinct-member, different-same, different-new, count-here, count-there, count-none, elem-false, mem-getD}
@@ -14,8 +16,6 @@ use Rattle.graph.specs.Color.{noColor}
 use Rattle.graph.specs.Colored.{colorOf, isColored, coloredAmong}
 use Rattle.graph.proofs.ColorLaws.{color-set-same, color-set-other, is-colored-true, is-colored-false, colored-true, uncolored-false, colored-edge, edge-colored, colored-edges-length, color-read, color-outside}
 use Rattle.greedy.specs.Saturation.{uncoloredAmong}
-use mathlib.Core.Bool.{Bool, true, _||_, cond}
-use native.Mathlib.Decide.{decLt}
 use Rattle.graph.specs.Edges.{edgeCount}
 use Rattle.graph.proofs.EdgeLaws.{at-edge, edge-at}
 use Rattle.graph.specs.Stretch.{stretch}
@@ -24,8 +24,6 @@ use Rattle.items.specs.Items.{firstNode, secondNode, acrossOf, neighborsOf, Siz
 use Rattle.items.proofs.ItemsLaws.{items-few, across-inside, first-inside, second-inside, NodeOf, neighbor-leading, leading-neighbor}
 use Rattle.color_marks.proofs.MarksLaws.{stands-item, item-stands, stored-here, bare-mark, used-yes, used-no}
 use Rattle.color_marks.specs.Marks.{stored, around, stands, markOf, usedMarks}
-
--- ---- Laws of what specs/Counts defines.
 
 -- ---- how often
 
@@ -114,7 +112,7 @@ module _ (colors : List ℕ) (v c : ℕ) (inside : v < length colors) (bare : co
         | inr q ↦ colors-stay us x q
       ]) ∙ different-new c (colorsAmong colors us) new
 
--- ---- The marks tell on whose neighbours a colour stands.
+-- ---- the marks tell on whose neighbours a colour stands
 
 -- An item among us that has no colour is marked if the colour stands on its neighbours.
 pub record Known (us : List ℕ) (nb : ℕ → List ℕ) (colors : List ℕ) (c : ℕ) (marks : List ℕ) : Type 0 where

@@ -27,7 +27,7 @@ use Rattle.greedy.proofs.TurnLaws.{edge-neighbors}
 use Rattle.items.specs.declared.Kind.the-variants.{Nodes, Edges}
 use Rattle.items.proofs.ItemsLaws.{first-inside, second-inside, across-inside}
 
--- ---- Laws of what specs/Notes defines.
+-- ---- noting
 
 pub none-noted : (s w m : ℕ) → NotedTimes 0 s w m s w m
 none-noted s w m = record { waits = omega arith; not-yet = λ z. (refl, refl); old = λ z. (refl, z); new = λ z y. absurd (y refl) }
@@ -137,7 +137,7 @@ module _ (kind : Kind) (ends colors edges : List ℕ) (v : ℕ) (s₀ w₀ m₀ 
   pub notes-all : Noted colors passed s₀ w₀ m₀ s w m → i ≤ length edges → length edges ≤ i → Noted colors (acrossAll kind ends v edges) s₀ w₀ m₀ s w m
   notes-all p h k = let e : i ≡ length edges = omega arith in rw (e, take-length edges) at p
 
--- ---- The items around an item note its colour, those at its first node and then those at its second.
+-- The items around an item note its colour, those at its first node and then those at its second.
 
 -- ---- as the code goes
 

@@ -6,6 +6,8 @@ use mathlib.Core.List.{List, _∷_, [], map}
 use native.Mathlib.Omega.{arith}
 use lib.ListN.{length, getD, set, replicate, length-set, length-replicate, getD-replicate, List·getD-eq-default}
 use lib.Seq.{set-getD, getD-set-same, getD-set-other, ext-getD}
+use native.Mathlib.Nat.{not-suc-le-zero}
+use native.Mathlib.Decide.{decLt}
 use Rattle.lists.proofs.Tests.{by-test, dec-eq}
 use Rattle.lists.specs.Member.{Mem}
 use Rattle.lists.specs.Different.{different, count}
@@ -22,10 +24,8 @@ use Rattle.saturation.specs.Counts.{BothCounted, Cleared, Noted, NotesRo
 use Rattle.saturation.proofs.CountsLaws.{colorsAmong, count-mem, mem-count, different-few, uncolored-falls, different-stays, different-grows, Known, known}
 use Rattle.saturation.proofs.NotesLaws.{none-noted, around-times}
 use Rattle.color_marks.specs.Marks.{around, stored, markOf}
-use native.Mathlib.Nat.{not-suc-le-zero}
-use native.Mathlib.Decide.{decLt}
 
--- ---- Laws of what specs/Taken defines.
+-- ---- a colour taken
 
 pub saturation-among : (nb : ℕ → List ℕ) (colors : List ℕ) (v : ℕ) → saturation nb colors v ≡ different (colorsAmong colors (nb v))
 unfolding saturation colorsAmong
@@ -173,7 +173,7 @@ module _ (kind : Kind) (n : ℕ) (ends starts entries colors s₀ w₀ : List �
       let marks = known kind n ends starts entries colors c (ready .tabled) real us (replicate 4096 0) m (omega (arith, length-replicate {A = ℕ} 4096 0)) refl in
       subst (CountsReady kind n ends starts entries (set colors v c) (set s₀ v 0)) (ap (set w₀ v) (sym z) ∙ set-getD w₀ v 0) (take-ready m s₀ w₀ m marks noted refl refl)
 
--- ---- Laws of what specs/Start defines.
+-- ---- the start
 
 pub started-none : (nb : ℕ → List ℕ) (colors waiting : List ℕ) → Started nb 0 colors waiting
 started-none nb colors waiting = record { bare = λ u h. absurd (not-suc-le-zero h); waits = λ u h. absurd (not-suc-le-zero h) }

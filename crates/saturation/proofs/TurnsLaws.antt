@@ -27,7 +27,7 @@ use Rattle.items.specs.Items.{neighborsOf}
 use Rattle.items.proofs.ItemsLaws.{items-few}
 use Rattle.saturation.specs.Counts.{BothCounted, CountsReady, turnOf}
 
--- ---- What the counts choose is what the definition chooses.
+-- What the counts choose is what the definition chooses.
 
 -- ---- the greatest of the items without a colour
 
@@ -130,7 +130,7 @@ module _ (kind : Kind) (n : ℕ) (ends starts entries colors saturations waiting
   pub chosen-next : (v : NodeIndex) → choice ≡ Next v → Leads (neighborsOf kind n ends) colors (length colors) (v .0)
   chosen-next v e = best-leads (neighborsOf kind n ends) colors saturations waiting (ready .counted) (v .0) (some-best colors saturations waiting few (ready .saturations-room) (ready .waiting-room) (v .0) (sym (ap optionOf e) ∙ said))
 
--- ---- Laws of what specs/Turns defines.
+-- ---- the turns
 
 module _ (nb : ℕ → List ℕ) (n : ℕ) where
   pub turn-none : (colors : List ℕ) → uncolored colors n ≡ [] → colors ≡ turnOf nb n colors

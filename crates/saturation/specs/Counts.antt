@@ -58,8 +58,6 @@ pub record Preset (presets : List ℕ) (v : ℕ) (colors : List ℕ) : Type 0 wh
   pub done : (u : ℕ) → u < v → colorOf colors u ≡ colorOf presets u
   pub bare : (u : ℕ) → v ≤ u → colorOf colors u ≡ noColor
 
--- ---- An item takes a colour: room to note it, and the counts afterwards.
-
 -- ---- the state between two turns
 
 -- A graph that passed the checks, with its table, and the counts of its items.

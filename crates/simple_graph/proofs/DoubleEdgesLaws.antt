@@ -24,12 +24,12 @@ use Rattle.graph.specs.Stretch.{stretch, Table}
 use Rattle.vizing.specs.MisraGries.{hasLoop, hasDoubleEdge}
 use Rattle.vizing.specs.Simple.{SameEnds, Incident}
 use Rattle.vizing.proofs.SimpleLaws.{simple-no-double, passed-simple, simple-graph}
-use Rattle.simple_graph.specs.DoubleEdges.{farAt, Twice, Distinct, Tells, Ready, Seen, Before}
+use Rattle.simple_graph.specs.DoubleEdges.{farAt, Twice, Distinct, Tells, SeenReady, Seen, Before}
 
 -- ---- one node
 
 module _ (ends edges : List ℕ) (v : ℕ) where
-  pub seen-none : (seen : List ℕ) → Ready ends edges v seen → Seen ends edges v 0 seen
+  pub seen-none : (seen : List ℕ) → SeenReady ends edges v seen → Seen ends edges v 0 seen
   seen-none seen r = record {
     distinct = λ a b h l. absurd (not-suc-le-zero l);
     stamped = λ a l. absurd (not-suc-le-zero l);
@@ -38,7 +38,7 @@ module _ (ends edges : List ℕ) (v : ℕ) where
   }
 
   -- `seen` has a place for the far end of the next edge.
-  pub seen-room : (before seen : List ℕ) (i w : ℕ) → Ready ends edges v before → Seen ends edges v i seen → length seen ≡ length before → i < length edges → w ≡ farEnd ends (getD edges i 0) v → w < length seen
+  pub seen-room : (before seen : List ℕ) (i w : ℕ) → SeenReady ends edges v before → Seen ends edges v i seen → length seen ≡ length before → i < length edges → w ≡ farEnd ends (getD edges i 0) v → w < length seen
   seen-room before seen i w r s l h p = omega (arith, r .inside i h)
 
   -- The edge at place i has far end w. Without v's stamp at w, no edge before it has that far end.
@@ -140,7 +140,7 @@ module _ (n : ℕ) (ends starts entries : List ℕ) (v : ℕ) (table : Table end
   abbrev edges : List ℕ
   edges = stretch starts entries v
 
-  pub node-ready : (seen : List ℕ) → Passed n ends → Before ends v seen → Ready ends edges v seen
+  pub node-ready : (seen : List ℕ) → Passed n ends → Before ends v seen → SeenReady ends edges v seen
   node-ready seen p b = record {
     inside = λ i l. omega (arith, far-inside n ends p (getD edges i 0) v (listed-edge ends edges v (table .row v h) i l .0), p .nodes, b .size);
     old = b .old;

@@ -8,12 +8,12 @@ use native.Mathlib.Numerals.{add-one}
 use lib.ListN.{length, getD}
 use lib.Dec.{ltb, leb}
 use borrow.Author.Tests.{eq-eqb, ne-eqb, lt-ltb, le-ltb, le-leb, lt-leb}
+use mathlib.Core.Option.{Option, none, some}
 use Rattle.lists.proofs.Tests.{by-test}
 use Rattle.lists.specs.Search.{any}
 use Rattle.lists.proofs.SearchLaws.{any-false}
 use Rattle.graph.specs.Edges.{edgeCount, firstEnd, secondEnd, isLoop}
 use Rattle.vizing.specs.MisraGries.{hasLoop, hasDoubleEdge, simpleChecks}
-use mathlib.Core.Option.{Option, none, some}
 use Rattle.graph.specs.Report.{accepted, refused, number, reportOfChecked}
 use Rattle.graph.specs.Check.{Check, _gives_, firstRefusal, graphChecks, checkGraph}
 use Rattle.graph.proofs.CheckLaws.{passed, refused-first, passed-first, first-refuses, first-passes, all-passed, answered-refused, answered-accepted, checked-refused, checked-accepted, graph-refused, graph-accepted}
@@ -23,7 +23,7 @@ use Rattle.graph.specs.declared.Checked.{Checked}
 use Rattle.graph.specs.declared.Checked.the-variants as C
 use Rattle.simple_graph.specs.Simple.{checkSimple}
 
--- ---- The search for a loop, edge by edge from the first.
+-- ---- the search for a loop, edge by edge from the first
 
 pub no-edge : (ends : List ℕ) → hasLoop ends 0 ≡ false
 unfolding hasLoop any
@@ -45,7 +45,7 @@ no-loop-more ends k e n = rw (add-one k, ne-eqb (getD ends (2 * k) 0) (getD ends
 pub no-loop-all : (ends : List ℕ) (k : ℕ) → hasLoop ends k ≡ false → k ≤ edgeCount ends → edgeCount ends ≤ k → false ≡ hasLoop ends (edgeCount ends)
 no-loop-all ends k e h b = let p : k ≡ edgeCount ends = omega arith in sym (rw p at e)
 
--- ---- The graph checks and then those for loops and double edges: one law for each answer, and what the answer tells a caller.
+-- ---- the graph checks and then those for loops and double edges: one law for each answer, and what the answer tells a caller
 
 -- A check that passes wherever those before it do may be left out.
 pub left-out : (b : Bool) (k : ℕ) (cs ds : List Check) → (firstRefusal cs ≡ none → b ≡ false) → firstRefusal (cs ++ (b gives k) ∷ ds) ≡ firstRefusal (cs ++ ds)

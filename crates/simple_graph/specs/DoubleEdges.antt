@@ -33,7 +33,7 @@ module _ (ends edges : List ℕ) (v : ℕ) where
     pub distinct : r ≡ false → Distinct (length edges)
 
   -- What the search at v starts from: `seen` has a place for each far end, and v's stamp, v + 1, does not occur yet.
-  pub record Ready (seen : List ℕ) : Type 0 where
+  pub record SeenReady (seen : List ℕ) : Type 0 where
     pub inside : (i : ℕ) → i < length edges → farAt i < length seen
     pub old : (w : ℕ) → getD seen w 0 ≤ v
 

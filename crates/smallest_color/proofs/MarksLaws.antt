@@ -31,8 +31,6 @@ use Rattle.greedy.specs.Call.{edgeNeighbors}
 use Rattle.greedy.proofs.TurnLaws.{edge-neighborhood, edge-neighbors, sharing-neighbor}
 use Rattle.smallest_color.specs.EdgeMarks.{colorsOf}
 
--- ---- Laws of what specs/Marks defines.
-
 pub marked-none : (n : ℕ) → Marked (replicate n 0) []
 marked-none n = record {
   marked = λ c h p. absurd p;
@@ -140,8 +138,6 @@ pub smallest-color-node : (n : ℕ) (ends starts entries colors : List ℕ) (v r
 smallest-color-node n ends starts entries colors v r p table h e =
     let far = ap (farColors ends colors v) (table .row v h) ∙ (far-colors-neighbors ends colors v (edgesAt ends (edgeCount ends) v) ∙ ap (map (colorOf colors)) (sym (neighbors-far-ends ends (edgeCount ends) v))) in
     e ∙ (ap (λ (cs : List ℕ). smallestFrom 512 cs 0) far ∙ sym (smallest-node n ends colors v p))
-
--- ---- Laws of what specs/EdgeMarks defines.
 
 -- ---- marking the colours of edges, one after the other
 

@@ -25,7 +25,7 @@ use Rattle.two_color.proofs.SideLaws.{odd-cycle-walk, walk-odd-cycle, s
 use Rattle.two_color.specs.Components.{NodesColored}
 use Rattle.two_color.specs.TwoColor.{inputChecks, twoColor, sidesOutcome, Bipartition, OneBipartition}
 
--- ---- Laws of the call: one for each answer, and the clause of the bipartition.
+-- Laws of the call: one for each answer, and the clause of the bipartition.
 
 -- ---- where the other checks pass
 
@@ -168,7 +168,7 @@ module _ (n : ℕ) (ends lent : List ℕ) where
       lowest = λ days e v h own. accepts answer days e .at v h ∙ lowest-node-one ends (edgeCount ends) v own;
     }
 
--- ---- A bipartition with 1 at the lowest node of each component is the only one.
+-- ---- a bipartition with 1 at the lowest node of each component is the only one
 
 other-one : (a b : ℕ) → a ≤ 1 → b ≤ 1 → a ≢ b → eqb a 1 ≡ not (eqb b 1)
 other-one a b p q d = by-test (eqb b 1)

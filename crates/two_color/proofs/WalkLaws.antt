@@ -3,14 +3,14 @@ use Prim.Native.Nat.{ℕ, zero, suc, _+_, _<_}
 use mathlib.Core.Path.{_≡_, refl}
 use mathlib.Core.Bool.{Bool, true, false, not, xor}
 use native.Mathlib.Nat.{zero-add, suc-add}
-use Rattle.two_color.specs.Walk.{isOdd, Walk, stay, along, OddClosedWalk}
 use mathlib.Core.Logic.{inl}
 use mathlib.Core.List.{List}
 use native.Mathlib.Omega.{arith}
+use Rattle.two_color.specs.Walk.{isOdd, Walk, stay, along, OddClosedWalk}
 use Rattle.graph.specs.Edges.{firstEnd, secondEnd, farEnd, At}
 use Rattle.graph.proofs.EdgeLaws.{far-first, far-at, far-far}
 
--- ---- Laws of what specs/Odd defines.
+-- ---- parity
 
 pub false-xor : (b : Bool) → xor false b ≡ b
 unfolding xor
@@ -40,8 +40,6 @@ pub odd-add : (a b : ℕ) → isOdd (a + b) ≡ xor (isOdd a) (isOdd b)
 unfolding isOdd
 odd-add zero b = rw (zero-add, false-xor)
 odd-add (suc a) b = rw (suc-add, odd-add a b, not-xor)
-
--- ---- Laws of what specs/Walk defines.
 
 -- A walk from u to v, of odd length where the test holds, else of even length.
 abbrev pub WalkOf : List ℕ → ℕ → ℕ → ℕ → Bool → Type 0

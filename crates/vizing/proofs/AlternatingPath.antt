@@ -2,23 +2,21 @@
 use Prim.Native.Nat.{ℕ, zero, suc, _+_, _≤_, _<_}
 use mathlib.Core.Path.{_≡_, ap, subst, refl, sym}
 use mathlib.Core.Logic.{_⊎_, inl, inr, _≢_}
+use mathlib.Core.List.{List, [], _∷_}
+use borrow.Author.Tests.{eq-eqb, ne-eqb}
+use native.Mathlib.Omega.{arith}
+use lib.ListN.{length}
 use Rattle.lists.proofs.Tests.{dec-eq}
 use Rattle.graph.specs.Color.{noColor}
 use Rattle.vizing.specs.Coloring.{Free, Proper}
-use mathlib.Core.List.{List, [], _∷_}
-use borrow.Author.Tests.{eq-eqb, ne-eqb}
 use Rattle.lists.specs.Member.{Mem, Nodup}
 use Rattle.lists.proofs.MemberLaws.{dec-mem, nodup-bound}
 use Rattle.vizing.specs.MisraGries.{swap, edgeOfColor, path}
-use native.Mathlib.Omega.{arith}
-use lib.ListN.{length}
 use Rattle.graph.specs.Edges.{farEnd, edgesAt}
 use Rattle.graph.proofs.EdgeLaws.{edge-at, at-edge}
 use Rattle.graph.specs.Colored.{colorOf}
 use Rattle.vizing.proofs.DefinitionLaws.{some-or-none, edge-of-color-some, edge-of-color-none}
 use Rattle.vizing.specs.Simple.{Incident}
-
--- ---- Laws of what specs/Coloring defines.
 
 -- A simple graph: `At k v` says that edge k stands at node v, `far k v` is the other end of edge k.
 pub record Graph (At : ℕ → ℕ → Type 0) (far : ℕ → ℕ → ℕ) : Type 0 where
@@ -57,7 +55,7 @@ module _ {At : ℕ → ℕ → Type 0} (f h : ℕ → ℕ) (e : ℕ) (proper : P
       go (inr p) (inl q) = absurd (colored (cc (ap h q)))
       go (inr p) (inr q) = others-apart i j v p q a b colored eq
 
--- ---- Alternating paths, and what the exchange of the two colours along such a path does to a proper colouring.
+-- Alternating paths, and what the exchange of the two colours along such a path does to a proper colouring.
 
 -- ---- two colours exchanged
 
@@ -249,7 +247,7 @@ pub path-edge : {At : ℕ → ℕ → Type 0} {far : ℕ → ℕ → ℕ} {f : �
 path-edge {v = v} (follows j a t path) k (inl z) = ((v, rw z a), inl (rw z t))
 path-edge (follows j a t path) k (inr i) = let r = path-edge path k i in (r .0, elim (r .1) [ inl s ↦ inr s | inr s ↦ inl s ])
 
--- ---- An alternating path never comes back to a node: it has no edge twice and fewer edges than there are nodes, and n turns find all of it.
+-- ---- an alternating path never comes back to a node: it has no edge twice and fewer edges than there are nodes, and n turns find all of it
 
 -- A path that alternates between p and q has passed the nodes `passed` and is at v, where it looks for an edge of colour p.
 record Reached (At : ℕ → ℕ → Type 0) (far : ℕ → ℕ → ℕ) (f : ℕ → ℕ) (n : ℕ) (passed : List ℕ) (v p q : ℕ) : Type 0 where

@@ -5,6 +5,9 @@ use mathlib.Core.Logic.{inl, inr}
 use mathlib.Core.List.{[], _∷_, List}
 use native.Mathlib.Omega.{arith}
 use lib.ListN.{take, replicate, length, length-replicate, length-take, getD}
+use mathlib.Core.Option.{Option, none, some}
+use native.Mathlib.Nat.{min-le-left}
+use lib.Seq.{length-take-le}
 use Rattle.lists.specs.Member.{elem}
 use Rattle.lists.specs.Search.{allBelow, any, firstPlace, firstThat}
 use Rattle.graph.specs.Edges.{firstEnd, secondEnd, isLoop, farEnd, secondAt, firstEdges, secondEdges, edgesAt, degree, edgeCount}
@@ -16,16 +19,13 @@ use Rattle.vizing.specs.Simple.{Incident}
 use Rattle.vizing.specs.Demand3.{maxDegree, Admitted, Call, Demand3, Accurate}
 use Rattle.vizing.proofs.Theorem.{passed-admitted, misra-gries-colors, misra-gries-first, admitted-first, demand3, left-over}
 use Rattle.vizing.specs.Demand3Examples.{triangle, listP13}
-use mathlib.Core.Option.{Option, none, some}
-use native.Mathlib.Nat.{min-le-left}
-use lib.Seq.{length-take-le}
 use Rattle.graph.specs.Report.{accepted, refused, Accepted}
 use Rattle.graph.proofs.CheckLaws.{answered-refused}
 use Rattle.vizing.proofs.FirstEdges.{held-length, edge-count-take}
 use Rattle.vizing.specs.Clause.{Demand3Of, MeetsClause, ClauseIsClaim}
 use Rattle.vizing.specs.WrongCalls.{Falls, WrongCallsFall, refusesAll, allZero, leavesSlice, rising, fillsIn, filledP13}
 
--- ---- Demand 3 is neither empty nor loose: lists that it admits, where D + 1 colours are needed and where a later edge changes colours given before.
+-- Demand 3 is neither empty nor loose: lists that it admits, where D + 1 colours are needed and where a later edge changes colours given before.
 
 -- ---- both are admitted
 
@@ -78,7 +78,7 @@ p13-first-three = misra-gries-first 4 listP13 p13-admitted 3 (omega arith) .same
 pub p13-colors : misraGries 4 listP13 (replicate 4 noColor) .colors ≡ 2 ∷ 1 ∷ 0 ∷ 2 ∷ []
 p13-colors = misra-gries-colors 4 listP13 (replicate 4 noColor) p13-admitted refl ∙ runs .3
 
--- ---- The clause over all inputs is demand 3, and the definition has it.
+-- ---- the clause over all inputs is demand 3, and the definition has it
 
 -- Demand 3 of a call, on every admitted list with a place for each edge.
 abbrev OnEachList : Call → Type 0
@@ -138,7 +138,7 @@ misra-gries-clause n ends lent = record { demand3 = demand3-clause misraGries de
 pub clause-is-claim : ClauseIsClaim
 clause-is-claim = record { enough = clause-demand3; definition = misra-gries-clause }
 
--- ---- Four wrong calls: each contradicts the contract's own clause on one list, at the part of it that is named.
+-- ---- Four wrong calls: each contradicts the contract's own clause on one list, at the part of it that is named
 
 -- Such a call does not have the clause, and does not meet demand 3.
 pub falls-clause : (call : Call) → Falls call → MeetsClause call → ⊥

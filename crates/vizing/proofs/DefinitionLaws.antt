@@ -5,7 +5,6 @@ use mathlib.Core.Logic.{_⊎_, inl, inr, _≢_}
 use mathlib.Core.List.{List, [], _∷_}
 use mathlib.Core.Option.{Option, none, some}
 use mathlib.Core.Bool.{true, false, not, _&&_, true≢false}
-use native.Mathlib.Omega.{arith}
 use lib.ListN.{length, set, length-set}
 use lib.Dec.{eqb}
 use borrow.Author.Tests.{eqb-true, eqb-false, not-true}
@@ -19,12 +18,6 @@ use Rattle.graph.specs.Colored.{colorOf, isColored}
 use Rattle.vizing.specs.MisraGries.{edgeOfColor, isFree, store, joins, firstJoining, greatestColor, step, Held, stepHeld}
 
 -- ---- options
-
-pub none-not-some : (o : Option ℕ) (k : ℕ) → o ≡ none → o ≡ some k → ⊥
-none-not-some o k p q = let z : _≡_ {A = ℕ} 0 1 = cc in omega arith
-
-pub some-injective : (i j : ℕ) → _≡_ {A = Option ℕ} (some i) (some j) → i ≡ j
-some-injective i j p = cc
 
 pub some-or-none : (o : Option ℕ) → (o ≡ none) ⊎ ((k : ℕ) × (o ≡ some k))
 some-or-none none = inl refl

@@ -3,13 +3,16 @@ use Prim.Native.Nat.{ℕ, zero, suc, _+_, _≤_}
 use mathlib.Core.Path.{_≡_, refl, sym, subst, ap, _∙_}
 use mathlib.Core.Logic.{_⊎_, inl, inr, _≢_}
 use mathlib.Core.List.{List, [], _∷_}
+use native.Mathlib.Omega.{arith}
+use lib.ListN.{length}
+use mathlib.Core.Bool.{cond}
+use lib.Dec.{eqb}
+use borrow.Author.Tests.{eq-eqb, ne-eqb}
 use Rattle.lists.proofs.Tests.{dec-eq, by-test}
 use Rattle.lists.specs.Member.{Mem, Nodup}
 use Rattle.graph.specs.Color.{noColor}
 use Rattle.vizing.specs.Coloring.{Free, Proper}
 use Rattle.vizing.proofs.AlternatingPath.{swap-other, Meets, Exchanged, ExchangedAt, UnchangedAt, starts-with-d, free-at-end, at-node, at-start, free-exchanged, free-unchanged, exchange-colored, Graph, Except, color-edge, uncolor-edge}
-use native.Mathlib.Omega.{arith}
-use lib.ListN.{length}
 use Rattle.lists.proofs.MemberLaws.{dec-mem, pigeonhole}
 use Rattle.graph.specs.Edges.{farEnd, edgesAt, degree}
 use Rattle.graph.proofs.EdgeLaws.{edge-at, at-edge}
@@ -19,11 +22,8 @@ use Rattle.vizing.proofs.StepForm.{growFan, lastFarEnd, placesTo}
 use Rattle.graph.proofs.ColorLaws.{NoneHas}
 use Rattle.vizing.proofs.DefinitionLaws.{some-or-none, is-free-true, is-free-false, first-joining-some, first-joining-none}
 use Rattle.vizing.specs.Simple.{Incident}
-use mathlib.Core.Bool.{cond}
-use lib.Dec.{eqb}
-use borrow.Author.Tests.{eq-eqb, ne-eqb}
 
--- ---- Fans at a node u: what the exchange leaves of a fan, and that afterwards d is free at the far end of some place.
+-- ---- Fans at a node u: what the exchange leaves of a fan, and that afterwards d is free at the far end of some place
 
 -- The last of these edges, or e if there is none.
 unfoldable pub lastEdge : ℕ → List ℕ → ℕ
@@ -119,7 +119,7 @@ module _ {At : ℕ → ℕ → Type 0} {far : ℕ → ℕ → ℕ} {u : ℕ} whe
                     | inr h ↦ (j, i, free-unchanged E (far j u) d h (rw z at free))
                   ]
 
--- ---- The fan of the definitions is a fan without repeats that no further edge joins; its places up to w end where d is free.
+-- The fan of the definitions is a fan without repeats that no further edge joins; its places up to w end where d is free.
 
 -- ---- growing a fan
 
@@ -212,7 +212,7 @@ pub fan-length : (ends : List ℕ) (m u : ℕ) (ks : List ℕ) → Nodup ks → 
 unfolding degree
 fan-length ends m u ks nodup at = pigeonhole ks (edgesAt ends m u) nodup (λ i p. let a = at i p in at-edge ends m u i (a .0) (a .1))
 
--- ---- The rotation of a fan: each place takes the colour of the next, the last takes d. It keeps a proper colouring.
+-- ---- the rotation of a fan: each place takes the colour of the next, the last takes d. It keeps a proper colouring.
 
 -- Edge k takes the colour of edge j, which loses it: from f to h.
 pub record Moved (f h : ℕ → ℕ) (k j : ℕ) : Type 0 where

@@ -7,6 +7,9 @@ use mathlib.Core.List.{List, [], _∷_, _++_, map}
 use native.Mathlib.Omega.{arith}
 use native.Mathlib.Decide.{decLt}
 use lib.ListN.{length, length-replicate, take}
+use lib.Seq.{getD-take, length-take-le}
+use lib.Dec.{eqb}
+use borrow.Author.Tests.{ne-eqb}
 use Rattle.lists.proofs.Tests.{by-test}
 use Rattle.lists.specs.Member.{Mem, Nodup}
 use Rattle.lists.proofs.MemberLaws.{nodup-bound}
@@ -20,11 +23,8 @@ use Rattle.vizing.specs.MisraGries.{edgeOfColor, isFree, store, firstJoi
 use Rattle.vizing.proofs.StepForm.{growFan, lastFarEnd, placesTo, rotatePlaces, stepParts, step-form}
 use Rattle.graph.proofs.ColorLaws.{colored-inside, color-replicate, colored-edge, smallest-free-colored, is-colored-true, is-colored-false, colored-edges-append, colored-edges-keep}
 use Rattle.vizing.proofs.DefinitionLaws.{some-or-none, edge-of-color-some, first-joining-some, length-store, color-store-other, false-joins, step-list, step-same}
-use lib.Seq.{getD-take, length-take-le}
-use lib.Dec.{eqb}
-use borrow.Author.Tests.{ne-eqb}
 
--- ---- The step of an edge changes colours of that edge and of coloured edges only, so the edges after it stay without a colour.
+-- ---- the step of an edge changes colours of that edge and of coloured edges only, so the edges after it stay without a colour
 
 -- The edges from k on have no colour.
 abbrev pub UncoloredFrom : List ℕ → ℕ → Type 0
@@ -136,7 +136,7 @@ module _ (ends : List ℕ) (m n : ℕ) where
   held-uncolored zero j h = color-replicate 4096 j
   held-uncolored (suc k) j h = ap (λ (l : List ℕ). colorOf l j) (step-list ends m n (heldAfter ends m n k) k) ∙ step-uncolored (heldAfter ends m n k .list) (omega (arith, held-length k)) k (held-uncolored k) j h
 
--- ---- The first edges alone: their run, in their own incidence order, holds what the whole run holds after them.
+-- The first edges alone: their run, in their own incidence order, holds what the whole run holds after them.
 
 -- ---- a search over a node's edges sees only the coloured ones
 

@@ -3,24 +3,24 @@ use Prim.Native.Nat.{ℕ, _<_}
 use mathlib.Core.Path.{_≡_, sym, _∙_, refl}
 use mathlib.Core.Logic.{inl, inr, _≢_}
 use mathlib.Core.List.{List, [], _∷_, map}
+use native.Mathlib.Omega.{arith}
+use lib.ListN.{length-map}
+use mathlib.Core.Bool.{true, false, _&&_, true≢false}
+use native.Mathlib.Decide.{decLt}
+use lib.Dec.{eqb}
+use borrow.Author.Tests.{eqb-true, eqb-false, eq-eqb}
 use Rattle.lists.proofs.MemberLaws.{dec-mem, nodup-bound}
 use Rattle.graph.specs.Edges.{farEnd, edgesAt, firstEnd, secondEnd, degree, isLoop}
 use Rattle.graph.proofs.EdgeLaws.{far-first, far-second, far-at, far-far, two-ends, edge-at, at-edge, edges-at-nodup}
 use Rattle.vizing.specs.Simple.{Simple, Incident, SameEnds}
 use Rattle.vizing.proofs.AlternatingPath.{Graph}
-use native.Mathlib.Omega.{arith}
-use lib.ListN.{length-map}
 use Rattle.lists.specs.Member.{Mem, Nodup}
-use mathlib.Core.Bool.{true, false, _&&_, true≢false}
-use native.Mathlib.Decide.{decLt}
-use lib.Dec.{eqb}
-use borrow.Author.Tests.{eqb-true, eqb-false, eq-eqb}
 use Rattle.lists.proofs.Tests.{by-test, dec-eq, and-true, true-and, or-true, true-or}
 use Rattle.lists.specs.Search.{any}
 use Rattle.lists.proofs.SearchLaws.{any-false, any-true}
 use Rattle.vizing.specs.MisraGries.{hasLoop, sameEnds, hasDoubleEdge}
 
--- ---- A list of ends without loops and double edges as a graph in the sense of the theory.
+-- ---- a list of ends without loops and double edges as a graph in the sense of the theory
 
 module _ (ends : List ℕ) (m : ℕ) (S : Simple ends m) where
   far-differs : (k v : ℕ) → Incident ends m k v → farEnd ends k v ≢ v
@@ -43,7 +43,7 @@ module _ (ends : List ℕ) (m : ℕ) (S : Simple ends m) where
     dec-at = λ k v. elim (dec-mem k (edgesAt ends m v)) [ inl i ↦ inl (edge-at ends m v k i) | inr n ↦ inr (λ a. n (at-edge ends m v k (a .0) (a .1))) ];
   }
 
--- ---- In a simple graph a node has fewer edges than there are nodes.
+-- ---- in a simple graph a node has fewer edges than there are nodes
 
 module _ (ends : List ℕ) (m n : ℕ) (S : Simple ends m) (inside : (k : ℕ) → k < m → (firstEnd ends k < n) × (secondEnd ends k < n)) (v : ℕ) where
   -- A far end is that of some edge of the list.
@@ -76,8 +76,6 @@ module _ (ends : List ℕ) (m n : ℕ) (S : Simple ends m) (inside : (k : ℕ) �
         )
             (λ w p. elim p [ inl e ↦ rw e h | inr q ↦ let r = far-of w ks q in rw (r .2) (far-inside (r .0) (edge-at ends m v (r .0) (r .1))) ]),
       )
-
--- ---- Laws of what specs/Simple defines.
 
 -- ---- the tests
 

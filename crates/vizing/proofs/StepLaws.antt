@@ -3,6 +3,11 @@ use Prim.Native.Nat.{ℕ, _≤_, _<_, suc, zero}
 use mathlib.Core.Logic.{_≢_, inl, inr}
 use mathlib.Core.List.{List, [], _∷_, _++_, map}
 use native.Mathlib.Omega.{arith}
+use mathlib.Core.Path.{_≡_, refl, sym, subst, _∙_, ap}
+use lib.ListN.{length, set, length-set, length-replicate}
+use lib.Seq.{set-set}
+use native.Mathlib.Decide.{decLt}
+use native.Mathlib.Nat.{not-suc-le-zero}
 use Rattle.graph.specs.Edges.{edgesAt, degree, firstEnd, secondEnd, farEnd}
 use Rattle.graph.proofs.EdgeLaws.{at-edge, far-first}
 use Rattle.graph.specs.Color.{noColor}
@@ -10,23 +15,18 @@ use Rattle.graph.specs.Colored.{colorOf, smallestFreeAt}
 use Rattle.graph.proofs.ColorLaws.{smallest-free-bound, smallest-none-has, color-set-same, color-set-other, color-replicate}
 use Rattle.vizing.specs.Coloring.{Free}
 use Rattle.vizing.specs.Simple.{Incident, Simple}
-use mathlib.Core.Path.{_≡_, refl, sym, subst, _∙_, ap}
-use lib.ListN.{length, set, length-set, length-replicate}
-use lib.Seq.{set-set}
 use Rattle.lists.specs.Member.{Mem, Nodup}
 use Rattle.lists.proofs.MemberLaws.{dec-mem}
 use Rattle.vizing.specs.MisraGries.{store, swap, exchange, step, heldAfter}
 use Rattle.vizing.proofs.StepForm.{rotatePlaces, growFan, lastFarEnd, placesTo, StepParts, stepParts, step-form}
 use Rattle.vizing.proofs.DefinitionLaws.{length-store, color-store-other, step-list}
 use Rattle.vizing.proofs.Fan.{Moved, Rotated, lastEdge, last-member, UpTo, fan-edge, fan-at, up-to-free, up-to-member, up-to-nodup, fan-up-to, some-free, Grown, grown-fan, fan-nodup, grown-maximal, fan-grown, places-up-to, last-far-end, fan-length, rotated-other, rotated-from, rotation-proper}
-use native.Mathlib.Decide.{decLt}
 use Rattle.graph.proofs.TableLaws.{degree-bound}
 use Rattle.vizing.proofs.AlternatingPath.{Graph, swap-cases, Alternating, path-edge, Exchanged, exchange-proper, exchange-uncolored, free-d, path-alternating, alternating-nodup, alternating-length}
 use Rattle.vizing.proofs.SimpleLaws.{simple-graph}
 use Rattle.vizing.specs.Step.{Invariant}
-use native.Mathlib.Nat.{not-suc-le-zero}
 
--- ---- Which colours a step may use, and that the colours up to the greatest degree are enough.
+-- ---- Which colours a step may use, and that the colours up to the greatest degree are enough
 
 -- The allowed colours are colours, and the smallest free colour at a node below n is free there and allowed. Nothing else is used of it.
 pub record Palette (ends : List ℕ) (m n : ℕ) (Ok : ℕ → Type 0) : Type 0 where
@@ -43,7 +43,7 @@ degree-palette ends m n D h degrees = record {
   bound = λ l v b. omega (arith, smallest-free-bound l (edgesAt ends m v), degrees v b);
 }
 
--- ---- What stands at each place after the exchange and after the rotation; both also done place by place.
+-- ---- what stands at each place after the exchange and after the rotation; both also done place by place
 
 -- Stored by a function of the place, each place has its own colour, also where a place comes twice.
 color-store-map : (f : ℕ → ℕ) (l ks : List ℕ) (i : ℕ) → Mem i ks → i < length l → colorOf (store l ks (map f ks)) i ≡ f i
@@ -124,7 +124,7 @@ rotate-rotated l k (j ∷ ks) d (out, nodup) inside =
       others = λ i n m. color-set-other l′ j noColor i m ∙ color-set-other l k (colorOf l j) i n;
     }
 
--- ---- One step from any list that meets the invariant: what its parts are, and that the next list meets the invariant.
+-- ---- One step from any list that meets the invariant: what its parts are, and that the next list meets the invariant
 
 -- What is known of what the step of edge k finds in the list l, and of its exchange and its rotation.
 pub record FoundLaws (ends : List ℕ) (m n : ℕ) (Ok : ℕ → Type 0) (l : List ℕ) (k : ℕ) (found : StepParts) : Type 0 where
@@ -303,7 +303,7 @@ module _ (ends : List ℕ) (m n : ℕ) (Ok : ℕ → Type 0) (S : Simple ends m)
           ∙ exchange-uncolored exchanged j (I .rest j (omega arith));
     }
 
--- ---- The list that the run holds meets the invariant after every edge.
+-- ---- the list that the run holds meets the invariant after every edge
 
 module _ (ends : List ℕ) (m n : ℕ) (Ok : ℕ → Type 0) (S : Simple ends m) (inside : (k : ℕ) → k < m → (firstEnd ends k < n) × (secondEnd ends k < n)) (small : m ≤ 4096)
     (P : Palette ends m n Ok) where

@@ -2,10 +2,6 @@
 use Prim.Native.Nat.{ℕ, zero, suc, _≤_, _<_, max}
 use mathlib.Core.Path.{_≡_, refl, ap, ap₂, sym, _∙_}
 use mathlib.Core.List.{List, [], _∷_}
-use Rattle.vizing.specs.MisraGries.{Tally, greatestColor, heldAfter, find, step}
-use Rattle.vizing.proofs.DefinitionLaws.{step-list, step-edges, step-greatest}
--- No name of it is used: the rows are to be checked before the laws, so that a wrong definition is refused for what it gives.
-use Rattle.vizing.specs.Answers
 use mathlib.Core.Logic.{_⊎_, inl, inr, _≢_}
 use mathlib.Core.Bool.{Bool, true, false, not, _&&_, cond, true≢false}
 use native.Mathlib.Omega.{arith}
@@ -13,6 +9,10 @@ use native.Mathlib.Decide.{decLt}
 use lib.ListN.{length}
 use lib.Dec.{eqb, ltb}
 use borrow.Author.Tests.{eqb-false, ne-eqb, ltb-true, ltb-false, not-true}
+use Rattle.vizing.specs.MisraGries.{Tally, greatestColor, heldAfter, find, step}
+use Rattle.vizing.proofs.DefinitionLaws.{step-list, step-edges, step-greatest}
+-- No name of it is used: the rows are to be checked before the laws, so that a wrong definition is refused for what it gives.
+use Rattle.vizing.specs.Answers
 use Rattle.lists.proofs.Tests.{by-test, and-true, true-and}
 use Rattle.lists.specs.Member.{Mem, Nodup}
 use Rattle.lists.proofs.MemberLaws.{dec-mem}
@@ -26,7 +26,7 @@ use Rattle.vizing.proofs.Fan.{lastEdge, Rotated, rotated-other, rotated
 use Rattle.vizing.proofs.StepLaws.{Palette, FoundLaws, found-laws}
 use Rattle.vizing.specs.Step.{Invariant}
 
--- ---- What the tally of a run says: the edges done, and the greatest colour that any of them has.
+-- ---- what the tally of a run says: the edges done, and the greatest colour that any of them has
 
 -- A tally is its two numbers.
 pub tally-same : (a b : Tally) → a .edges ≡ b .edges → a .greatest ≡ b .greatest → a ≡ b
@@ -43,7 +43,7 @@ module _ (ends : List ℕ) (m n : ℕ) where
   tally-greatest zero = refl
   tally-greatest (suc k) = let h = heldAfter ends m n k in step-greatest ends m n h k ∙ ap greatestColor (sym (step-list ends m n h k))
 
--- ---- The greatest colour in use: a step raises it to the one colour that can be new, and never lowers it.
+-- The greatest colour in use: a step raises it to the one colour that can be new, and never lowers it.
 
 -- ---- the greatest colour of a list
 

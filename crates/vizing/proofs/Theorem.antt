@@ -6,15 +6,15 @@ use mathlib.Core.List.{List, [], _∷_}
 use native.Mathlib.Omega.{arith}
 use native.Mathlib.Nat.{not-suc-le-zero}
 use native.Mathlib.Decide.{decLt}
-use Rattle.lists.proofs.Tests.{dec-eq}
-use Rattle.graph.specs.Edges.{degree, edgeCount, firstEnd, secondEnd, edgesAt}
-use Rattle.graph.proofs.TableLaws.{degree-bound}
-use Rattle.vizing.specs.Demand3.{maxDegree, Admitted, Accurate, FirstEdgesAlone, Demand3}
 use mathlib.Core.Bool.{not}
 use mathlib.Core.Option.{none}
 use lib.ListN.{length, getD, take}
 use lib.Dec.{eqb}
 use borrow.Author.Tests.{eq-eqb, eqb-true, not-false}
+use Rattle.lists.proofs.Tests.{dec-eq}
+use Rattle.graph.specs.Edges.{degree, edgeCount, firstEnd, secondEnd, edgesAt}
+use Rattle.graph.proofs.TableLaws.{degree-bound}
+use Rattle.vizing.specs.Demand3.{maxDegree, Admitted, Accurate, FirstEdgesAlone, Demand3}
 use Rattle.graph.specs.Check.{_gives_, firstRefusal, graphChecks, lengthCheck, Passed}
 use Rattle.graph.proofs.CheckLaws.{passed, passes, passed-inside, passed-first, passed-both, passed-one, first-passes, all-passed, answered-accepted, written-accepted}
 use Rattle.vizing.specs.MisraGries.{hasLoop, hasDoubleEdge, simpleChecks, misraGriesChecks, held, misraGries}
@@ -30,8 +30,6 @@ use Rattle.graph.specs.Colored.{colorOf, smallestFreeAt}
 use Rattle.graph.proofs.ColorLaws.{color-read, color-take, smallest-free-bound, smallest-none-has}
 use Rattle.vizing.proofs.StepLaws.{degree-palette, run-keeps}
 use Rattle.vizing.specs.Step.{Invariant}
-
--- ---- Laws of what specs/Demand3 defines.
 
 -- ---- D
 
@@ -57,7 +55,7 @@ unfolding maxDegree
 max-degree-bound ends m zero = omega arith
 max-degree-bound ends m (suc v) = omega (arith, degree-bound ends m v, max-degree-bound ends m v)
 
--- ---- The checks of the call pass exactly where demand 3 admits the list and the colour slice has one place for each edge.
+-- The checks of the call pass exactly where demand 3 admits the list and the colour slice has one place for each edge.
 
 -- ---- an admitted list passes
 
@@ -121,7 +119,7 @@ admitted-first n ends a k h = record {
     same-ends : (i j : ℕ) → i < k → j < k → SameEnds (take (2 * k) ends) i j → SameEnds ends i j
     same-ends i j b b′ same = rw (first-end-take ends k i b, first-end-take ends k j b′, second-end-take ends k i b, second-end-take ends k j b′) at same
 
--- ---- Misra-Gries meets demand 3.
+-- Misra-Gries meets demand 3.
 
 -- ---- the call on an admitted list
 

@@ -26,14 +26,14 @@ put-off-part-requires c κs =
     let after-part-at = c .before .before .before in
     let at-loop = after-part-at .before .before in
     let known = at-loop .before .before .before .before .before .before .before .pre .0 in
-    (part-below _ _ _ _ _ (known .0) (known .1) (known .2) _ _ (after-part-at .part-at .ensures), held-at _ _ _ _ _ _ _ (at-loop .loop .inv .1))
+    (part-below _ _ _ _ _ (known .0) (known .1) (known .2) _ _ (after-part-at .part-at .ensures .0), held-at _ _ _ _ _ _ _ (at-loop .loop .inv .1))
 
 loop-again : tie.Need-loop-again Inv-loop μ-loop
 loop-again c =
     let after-put-off = c .before .before .before .before .before .before in
     let after-part-at = after-put-off .before .before .before .before in
     let at-loop = after-part-at .before .before in
-    (omega arith, parts-more _ _ _ _ _ _ _ _ _ _ _ _ (after-part-at .part-at .ensures) (at-loop .loop .inv .1) _ _ _ _ _ (after-put-off .put-off-part .ensures))
+    (omega arith, parts-more _ _ _ _ _ _ _ _ _ _ _ _ (after-part-at .part-at .ensures .0) (at-loop .loop .inv .1) _ _ _ _ _ (after-put-off .put-off-part .ensures))
 
 returns : tie.Need-returns Inv-loop μ-loop
 returns c =

@@ -16,5 +16,6 @@ pub color-at-spec : {M : Type 1} → statement M
 color-at-spec = tie.close (tie.spec
     (λ c. search needs) (λ c. search needs) (λ c. search needs)
     (λ c. omega (arith, c .shared-slice-known .given (c .before .before .before .args .edge .0)))
+    (λ c. search needs)
     returns
     returns-2)
