@@ -77,7 +77,7 @@ walk-value ends value differs stay = refl
 walk-value ends value differs {u = u} {l = suc l} (along k h p w) = walk-value ends value differs w ∙ (ap (flipped (isOdd l)) (far-value ends value differs k u h p) ∙ flipped-not (isOdd l) (value u))
 
 -- So where an odd closed walk exists there is no assignment.
-pub odd-none : (ends : List ℕ) → OddClosedWalk ends (edgeCount ends) → NoAssignment ends
+odd-none : (ends : List ℕ) → OddClosedWalk ends (edgeCount ends) → NoAssignment ends
 odd-none ends w value differs = go (value (w .node)) (walk-value ends value differs (w .walk) ∙ ap (λ (t : Bool). flipped t (value (w .node))) (w .odd))
   where
     go : (b : Bool) → b ≡ not b → ⊥

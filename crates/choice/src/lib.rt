@@ -56,7 +56,7 @@ fn greatest_among(saturations: &[u16], saturation: u16, waiting: &[u16], n: usiz
 }
 
 // The lowest of the items without a colour that have the greatest saturation of all items and the greatest waiting count of those with that
-// saturation. Where an item with a colour has both counts 0 it hides none without.
+// saturation; none where an item has no count, or there are more than 4,096. Where an item with a colour has both counts 0 it hides none without.
 pub fn choose(colors: &[u16], saturations: &[u16], waiting: &[u16]) -> Choice
     ensures answer { λ r. let colors = now (colors .entry) in let saturations = now (saturations .entry) in let waiting = now (waiting .entry) in
         ⌜ optionOf r ≡ choiceOf colors saturations waiting ⌝ }

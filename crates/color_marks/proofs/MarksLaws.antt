@@ -41,12 +41,12 @@ module _ (kind : Kind) (ends starts entries : List ℕ) where
 -- ---- what is stored for them
 
 module _ (f : ℕ → ℕ) where
-  pub stored-append : (us ws marks : List ℕ) → stored f (us ++ ws) marks ≡ stored f ws (stored f us marks)
+  stored-append : (us ws marks : List ℕ) → stored f (us ++ ws) marks ≡ stored f ws (stored f us marks)
   unfolding stored
   stored-append [] ws marks = refl
   stored-append (u ∷ us) ws marks = stored-append us ws (set marks u (f u))
 
-  pub stored-last : (us : List ℕ) (u : ℕ) (marks : List ℕ) → stored f (us ++ u ∷ []) marks ≡ set (stored f us marks) u (f u)
+  stored-last : (us : List ℕ) (u : ℕ) (marks : List ℕ) → stored f (us ++ u ∷ []) marks ≡ set (stored f us marks) u (f u)
   unfolding stored
   stored-last us u marks = stored-append us (u ∷ []) marks
 

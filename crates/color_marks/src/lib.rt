@@ -14,6 +14,18 @@ use items::across;
 use items::first_node;
 use items::second_node;
 
+// What is noted of a node in a turn.
+struct Note(pub u8);
+
+impl Note {
+    const NOT_ASKED: u8 = 0;
+
+    // The colour does not stand there, or it does.
+    const ABSENT: u8 = 1;
+
+    const STANDS: u8 = 2;
+}
+
 // Whether an edge at the node leads to an item that has the colour. In each of its two groups a node's edges stand newest first, and
 // among equals the lowest item is coloured first: so the colour is mostly found sooner from the back.
 fn stands_at(
@@ -64,14 +76,14 @@ fn ask(
     if at.len() <= w {
         return stands_at(kind, ends, starts, entries, colors, node, color);
     }
-    if at[w] != 0 {
-        return at[w] == 2;
+    if at[w] != Note::NOT_ASKED {
+        return at[w] == Note::STANDS;
     }
     if stands_at(kind, ends, starts, entries, colors, node, color) {
-        at[w] = 2;
+        at[w] = Note::STANDS;
         return true;
     }
-    at[w] = 1;
+    at[w] = Note::ABSENT;
     false
 }
 

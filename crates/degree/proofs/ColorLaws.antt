@@ -71,14 +71,14 @@ edges-room n ends passed = record {
 -- ---- the order of items whose degrees are known
 
 module _ (nb : ℕ → List ℕ) (n top : ℕ) (presets degrees : List ℕ) (known : (v : ℕ) → v < n → getD degrees v 0 ≡ length (nb v)) (few : (v : ℕ) → v < n → length (nb v) < top) (l : length presets ≡ n) where
-  pub items-countable : n ≤ 65535 → n ≤ length degrees → Countable degrees presets top
+  items-countable : n ≤ 65535 → n ≤ length degrees → Countable degrees presets top
   items-countable b h = record {
     known = omega arith;
     items = omega arith;
     below = λ v i. let i′ : v < n = omega arith in omega (arith, known v i′, few v i′);
   }
 
-  pub items-order : (order : List ℕ) → order ≡ fallingBuckets (degreeIn degrees) top (uncolored presets (length presets)) → order ≡ degreeOrder nb n presets
+  items-order : (order : List ℕ) → order ≡ fallingBuckets (degreeIn degrees) top (uncolored presets (length presets)) → order ≡ degreeOrder nb n presets
   unfolding degreeIn degreeAmong
   items-order order e =
       e
@@ -120,7 +120,7 @@ module _ (order colors : List ℕ) (i : ℕ) (waiting : Waiting (drop i order) c
   pub waiting-inside : getD order i 0 < length colors
   waiting-inside = split .inside (getD order i 0) (inl refl)
 
-  pub waiting-free : colorOf colors (getD order i 0) ≡ noColor
+  waiting-free : colorOf colors (getD order i 0) ≡ noColor
   waiting-free = split .free (getD order i 0) (inl refl)
 
   -- One that takes a colour is the only one that changes.
@@ -134,7 +134,7 @@ module _ (order colors : List ℕ) (i : ℕ) (waiting : Waiting (drop i order) c
 -- ---- turns
 
 module _ (nb : ℕ → List ℕ) where
-  pub turn-next : (order colors : List ℕ) (i c : ℕ) {r : List ℕ} → colorInOrder nb (drop i order) colors ≡ r → i < length order → c ≡ smallestFreeAt colors (nb (getD order i 0)) → colorInOrder nb (drop (i + 1) order) (set colors (getD order i 0) c) ≡ r
+  turn-next : (order colors : List ℕ) (i c : ℕ) {r : List ℕ} → colorInOrder nb (drop i order) colors ≡ r → i < length order → c ≡ smallestFreeAt colors (nb (getD order i 0)) → colorInOrder nb (drop (i + 1) order) (set colors (getD order i 0) c) ≡ r
   turn-next order colors i c e h p = rw (add-one i, p) (sym (in-order-next nb (getD order i 0) (drop (suc i) order) colors) ∙ (rw (drop-cons order i 0 h) at e))
 
   pub turns-done : (order colors : List ℕ) (i : ℕ) {r : List ℕ} → colorInOrder nb (drop i order) colors ≡ r → length order ≤ i → colors ≡ r

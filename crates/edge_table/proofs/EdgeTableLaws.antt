@@ -26,11 +26,11 @@ getD-inside (x ∷ l) (suc i) d e h = getD-inside l i d e (omega arith)
 
 -- ---- entries and edges
 
-pub edge-none : (x : ℕ) → x ≡ noEdge → edgeOfEntry x ≡ none
+edge-none : (x : ℕ) → x ≡ noEdge → edgeOfEntry x ≡ none
 unfolding edgeOfEntry
 edge-none x e = simp (eq-eqb _ _ e)
 
-pub edge-some : (x : ℕ) → x ≢ noEdge → edgeOfEntry x ≡ some x
+edge-some : (x : ℕ) → x ≢ noEdge → edgeOfEntry x ≡ some x
 unfolding edgeOfEntry
 edge-some x n = simp (ne-eqb _ _ n)
 

@@ -38,7 +38,7 @@ unfolding smallestFree
 smallest-free cs = from-law (suc (length cs)) cs 0 (omega arith) (λ k h. absurd (not-suc-le-zero h))
 
 -- Only one number is the smallest free one.
-pub smallest-unique : (cs : List ℕ) (a b : ℕ) → SmallestFree cs a → SmallestFree cs b → a ≡ b
+smallest-unique : (cs : List ℕ) (a b : ℕ) → SmallestFree cs a → SmallestFree cs b → a ≡ b
 smallest-unique cs a b p q =
     by-test (ltb a b)
     (λ t. absurd (p .free (q .smaller a (ltb-true a b t))))
@@ -54,7 +54,7 @@ pub days-colored : (c : ℕ) (cs : List ℕ) → c ≢ noColor → daysOf (c ∷
 unfolding daysOf
 days-colored c cs n = simp (ne-eqb c noColor n)
 
-pub days-uncolored : (c : ℕ) (cs : List ℕ) → c ≡ noColor → daysOf (c ∷ cs) ≡ daysOf cs
+days-uncolored : (c : ℕ) (cs : List ℕ) → c ≡ noColor → daysOf (c ∷ cs) ≡ daysOf cs
 unfolding daysOf
 days-uncolored c cs e = simp (eq-eqb c noColor e)
 
@@ -96,7 +96,7 @@ days-at : (cs : List ℕ) (i : ℕ) → 0 < i → i ≤ length cs → drop (i - 
 days-at cs i h k = let e : suc (i - 1) ≡ i = omega arith in drop-cons cs (i - 1) 0 (omega arith) ∙ ap (λ (j : ℕ). getD cs (i - 1) 0 ∷ drop j cs) e
 
 -- The days that one colour alone takes, none for the mark.
-abbrev pub DaysAlone : ℕ → ℕ → Type 0
+abbrev DaysAlone : ℕ → ℕ → Type 0
 DaysAlone c days = ((c ≡ noColor) × (days ≡ 0)) ⊎ ((c ≢ noColor) × (days ≡ c + 1))
 
 pub days-more : (cs : List ℕ) (i d day : ℕ) → d ≡ daysOf (drop i cs) → 0 < i → i ≤ length cs → DaysAlone (getD cs (i - 1) 0) day → d < day → day ≡ daysOf (drop (i - 1) cs)
@@ -244,3 +244,8 @@ module _ (l ks : List ℕ) where
     smallest-none-has k p e =
         let m = mem-map (colorOf l) k (coloredAmong l ks) (edge-colored l ks k p (λ z. smallest-free-color (sym e ∙ z))) in
         law .free (subst (λ (c : ℕ). Mem c (map (colorOf l) (coloredAmong l ks))) e m)
+
+-- Two lists with the same coloured edges have the same smallest free colour.
+pub smallest-free-same : (l js ks : List ℕ) → coloredAmong l js ≡ coloredAmong l ks → smallestFreeAt l js ≡ smallestFreeAt l ks
+unfolding smallestFreeAt
+smallest-free-same l js ks same = ap (λ (is : List ℕ). smallestFree (map (colorOf l) is)) same

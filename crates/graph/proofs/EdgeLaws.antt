@@ -108,11 +108,11 @@ length-keep : (b : Bool) (k : ℕ) (ks : List ℕ) → length (keep b k ks) ≡ 
 length-keep true k ks = omega arith
 length-keep false k ks = omega arith
 
-pub length-first : (ends : List ℕ) (k v : ℕ) → length (firstEdges ends (suc k) v) ≡ length (firstEdges ends k v) + one (eqb (firstEnd ends k) v)
+length-first : (ends : List ℕ) (k v : ℕ) → length (firstEdges ends (suc k) v) ≡ length (firstEdges ends k v) + one (eqb (firstEnd ends k) v)
 unfolding firstEdges
 length-first ends k v = length-keep (eqb (firstEnd ends k) v) k (firstEdges ends k v)
 
-pub length-second : (ends : List ℕ) (k v : ℕ) → length (secondEdges ends (suc k) v) ≡ length (secondEdges ends k v) + one (secondAt ends k v)
+length-second : (ends : List ℕ) (k v : ℕ) → length (secondEdges ends (suc k) v) ≡ length (secondEdges ends k v) + one (secondAt ends k v)
 unfolding secondEdges
 length-second ends k v = length-keep (secondAt ends k v) k (secondEdges ends k v)
 
@@ -155,21 +155,21 @@ keep-nodup : (b : Bool) (k : ℕ) (ks : List ℕ) → (Mem k ks → ⊥) → Nod
 keep-nodup true k ks n u = (n, u)
 keep-nodup false k ks n u = u
 
-pub first-member : (ends : List ℕ) (m v k : ℕ) → Mem k (firstEdges ends m v) → (k < m) × (firstEnd ends k ≡ v)
+first-member : (ends : List ℕ) (m v k : ℕ) → Mem k (firstEdges ends m v) → (k < m) × (firstEnd ends k ≡ v)
 unfolding firstEdges
 first-member ends (suc m) v k p = elim (keep-cases (eqb (firstEnd ends m) v) m k (firstEdges ends m v) p) [
   | inl (t, e) ↦ (omega arith, rw e (eqb-true (firstEnd ends m) v t))
   | inr q ↦ let r = first-member ends m v k q in (omega (arith, r .0), r .1)
 ]
 
-pub second-member : (ends : List ℕ) (m v k : ℕ) → Mem k (secondEdges ends m v) → (k < m) × (secondEnd ends k ≡ v) × (firstEnd ends k ≢ v)
+second-member : (ends : List ℕ) (m v k : ℕ) → Mem k (secondEdges ends m v) → (k < m) × (secondEnd ends k ≡ v) × (firstEnd ends k ≢ v)
 unfolding secondEdges
 second-member ends (suc m) v k p = elim (keep-cases (secondAt ends m v) m k (secondEdges ends m v) p) [
   | inl (t, e) ↦ let r = second-at-true ends m v t in (omega arith, rw e (r .0), rw e (r .1))
   | inr q ↦ let r = second-member ends m v k q in (omega (arith, r .0), r .1, r .2)
 ]
 
-pub member-first : (ends : List ℕ) (m v k : ℕ) → k < m → firstEnd ends k ≡ v → Mem k (firstEdges ends m v)
+member-first : (ends : List ℕ) (m v k : ℕ) → k < m → firstEnd ends k ≡ v → Mem k (firstEdges ends m v)
 unfolding firstEdges
 member-first ends zero v k h p = absurd (not-suc-le-zero h)
 member-first ends (suc m) v k h p = elim (dec-eq k m) [
@@ -177,7 +177,7 @@ member-first ends (suc m) v k h p = elim (dec-eq k m) [
   | inr n ↦ keep-there (eqb (firstEnd ends m) v) m k (firstEdges ends m v) (member-first ends m v k (omega arith) p)
 ]
 
-pub member-second : (ends : List ℕ) (m v k : ℕ) → k < m → secondEnd ends k ≡ v → firstEnd ends k ≢ v → Mem k (secondEdges ends m v)
+member-second : (ends : List ℕ) (m v k : ℕ) → k < m → secondEnd ends k ≡ v → firstEnd ends k ≢ v → Mem k (secondEdges ends m v)
 unfolding secondEdges
 member-second ends zero v k h p q = absurd (not-suc-le-zero h)
 member-second ends (suc m) v k h p q = elim (dec-eq k m) [

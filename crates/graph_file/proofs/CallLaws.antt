@@ -33,7 +33,7 @@ use Rattle.graph_file.specs.Layout.{LaidOut, FileReader}
 -- ---- one field
 
 -- A whole field stands inside the bytes.
-abbrev pub FieldInside : List ℕ → FieldAt → Type 0
+abbrev FieldInside : List ℕ → FieldAt → Type 0
 FieldInside bytes r = (p : FieldPlace) → r ≡ A.Whole p → p .start + p .length ≤ length bytes
 
 truncated-inside : (bytes : List ℕ) → FieldInside bytes A.Truncated
@@ -70,10 +70,10 @@ module _ (bytes : List ℕ) (at : ℕ) (n : ℕ) (h : 3 ≤ length bytes - at) (
 -- ---- after the node count
 
 -- The ends stand inside the bytes.
-abbrev pub GraphInside : List ℕ → FileLayout → Type 0
+abbrev GraphInside : List ℕ → FileLayout → Type 0
 GraphInside bytes r = (g : GraphPlace) → r ≡ L.Graph g → g .start + 4 * g .edges ≤ length bytes
 
-pub no-graph : (bytes : List ℕ) → GraphInside bytes L.Malformed
+no-graph : (bytes : List ℕ) → GraphInside bytes L.Malformed
 no-graph bytes g e = let z : _≡_ {A = ℕ} 0 1 = cc in absurd (omega arith)
 
 not-ends : (n : ℕ) (field : Field) (fs : List Field) → isEnds field ≡ false → afterNodes n (field ∷ fs) ≡ none
@@ -204,7 +204,7 @@ abbrev Sizes : Type 0
 Sizes = ℕ × ℕ × ℕ
 
 module _ (bytes lent : List ℕ) where
-  abbrev pub IsOutcome : Report Sizes → List ℕ → Type 0
+  abbrev IsOutcome : Report Sizes → List ℕ → Type 0
   IsOutcome report ends = (report ≡ readFile bytes lent .report) × (ends ≡ readFile bytes lent .ends)
 
   refuses : (k : ℕ) → firstRefusal (fileChecks bytes lent) ≡ some k → IsOutcome (refused k) lent
@@ -250,7 +250,7 @@ module _ (bytes lent : List ℕ) where
       unfolding shownFile
       there = sym e ∙ ap (shownFile bytes) q
 
-      pub part-numbers : length (numbers (take (4 * g .edges) (drop (g .start) bytes))) ≡ 2 * g .edges
+      part-numbers : length (numbers (take (4 * g .edges) (drop (g .start) bytes))) ≡ 2 * g .edges
       part-numbers =
           let part = take (4 * g .edges) (drop (g .start) bytes) in
           omega (arith, length-numbers part, length-take-le (4 * g .edges) (drop (g .start) bytes) (omega (arith, inside g q, length-drop (g .start) bytes)))

@@ -26,7 +26,7 @@ length-numbers [] = refl
 length-numbers (byte ∷ []) = refl
 length-numbers (low ∷ high ∷ rest) = omega (arith, length-numbers rest)
 
-pub numbers-at : (bytes : List ℕ) (i : ℕ) → 2 * i + 1 < length bytes → getD (numbers bytes) i 0 ≡ number16 (getD bytes (2 * i) 0) (getD bytes (2 * i + 1) 0)
+numbers-at : (bytes : List ℕ) (i : ℕ) → 2 * i + 1 < length bytes → getD (numbers bytes) i 0 ≡ number16 (getD bytes (2 * i) 0) (getD bytes (2 * i + 1) 0)
 unfolding numbers
 numbers-at [] i h = let z : ⊥ = omega arith in absurd z
 numbers-at (byte ∷ []) i h = let z : ⊥ = omega arith in absurd z
@@ -36,33 +36,33 @@ numbers-at (low ∷ high ∷ rest) (suc i) h =
     let q : 2 * suc i + 1 ≡ suc (suc (2 * i + 1)) = omega arith in
     rw (q, p) (numbers-at rest i (omega arith))
 
-pub length-bytes : (xs : List ℕ) → length (bytesOf xs) ≡ 2 * length xs
+length-bytes : (xs : List ℕ) → length (bytesOf xs) ≡ 2 * length xs
 unfolding bytesOf bytes16
 length-bytes [] = refl
 length-bytes (x ∷ xs) = omega (arith, length-bytes xs)
 
-pub number-of-bytes : (x : ℕ) → number16 (x % 256) (x / 256) ≡ x
+number-of-bytes : (x : ℕ) → number16 (x % 256) (x / 256) ≡ x
 unfolding number16
 number-of-bytes x = omega arith
 
-pub numbers-of-bytes : (xs : List ℕ) → numbers (bytesOf xs) ≡ xs
+numbers-of-bytes : (xs : List ℕ) → numbers (bytesOf xs) ≡ xs
 unfolding bytesOf bytes16 numbers
 numbers-of-bytes [] = refl
 numbers-of-bytes (x ∷ xs) = ap₂ (λ (a : ℕ) (l : List ℕ). a ∷ l) (number-of-bytes x) (numbers-of-bytes xs)
 
-pub bytes-of-number : (low high : ℕ) → low < 256 → bytes16 (number16 low high) ≡ low ∷ high ∷ []
+bytes-of-number : (low high : ℕ) → low < 256 → bytes16 (number16 low high) ≡ low ∷ high ∷ []
 unfolding bytes16 number16
 bytes-of-number low high h =
     let p : (low + 256 * high) % 256 ≡ low = omega arith in
     let q : (low + 256 * high) / 256 ≡ high = omega arith in
     rw (p, q)
 
-pub number-below : (low high : ℕ) → low < 256 → high < 256 → number16 low high < 65536
+number-below : (low high : ℕ) → low < 256 → high < 256 → number16 low high < 65536
 unfolding number16
 number-below low high p q = omega arith
 
 -- Bytes in pairs are those of their numbers, which two bytes can hold.
-pub bytes-of-numbers : (bytes : List ℕ) → length bytes % 2 ≡ 0 → allBelow 256 bytes ≡ true → (bytesOf (numbers bytes) ≡ bytes) × (allBelow 65536 (numbers bytes) ≡ true)
+bytes-of-numbers : (bytes : List ℕ) → length bytes % 2 ≡ 0 → allBelow 256 bytes ≡ true → (bytesOf (numbers bytes) ≡ bytes) × (allBelow 65536 (numbers bytes) ≡ true)
 unfolding bytesOf numbers allBelow
 bytes-of-numbers [] h e = (refl, refl)
 bytes-of-numbers (byte ∷ []) h e = let z : ⊥ = omega arith in absurd z
@@ -113,7 +113,7 @@ pub record Shape (bytes : List ℕ) (field : Field) (rest : List ℕ) : Type 0 w
 abbrev Found : Type 0
 Found = Field × List ℕ
 
-pub field-shape : (bytes : List ℕ) (field : Field) (rest : List ℕ) → firstField bytes ≡ some (field, rest) → Shape bytes field rest
+field-shape : (bytes : List ℕ) (field : Field) (rest : List ℕ) → firstField bytes ≡ some (field, rest) → Shape bytes field rest
 unfolding firstField
 field-shape [] field rest e = absurd (Option·none-ne-some _ e)
 field-shape (a ∷ []) field rest e = absurd (Option·none-ne-some _ e)
@@ -136,7 +136,7 @@ field-shape (tag ∷ low ∷ high ∷ others) field rest e =
       same = ap (λ (l : List ℕ). tag ∷ low ∷ high ∷ l) (sym (take-append-drop n others)) ∙ ap₂ (λ (x : Field) (l : List ℕ). x .tag ∷ low ∷ high ∷ (x .bytes ++ l)) f r;
     })
 
-pub rest-shorter : (bytes : List ℕ) (field : Field) (rest : List ℕ) → firstField bytes ≡ some (field, rest) → length rest < length bytes
+rest-shorter : (bytes : List ℕ) (field : Field) (rest : List ℕ) → firstField bytes ≡ some (field, rest) → length rest < length bytes
 rest-shorter bytes field rest e = let s = field-shape bytes field rest e in omega (arith, ap length (s .same), length-append (field .bytes) rest)
 
 -- As many fields as bytes are enough.
@@ -155,7 +155,7 @@ same-fields (suc k) (suc j) (b ∷ bytes) h i = go (same-fields k j) (firstField
     go ih none e = refl
     go ih (some (field, rest)) e = let s = rest-shorter (b ∷ bytes) field rest e in rw (ih rest (omega arith) (omega arith))
 
-pub fields-next : (bytes : List ℕ) (field : Field) (rest : List ℕ) → firstField bytes ≡ some (field, rest) → fields bytes ≡ bind (fields rest) (λ (fs : List Field). some (field ∷ fs))
+fields-next : (bytes : List ℕ) (field : Field) (rest : List ℕ) → firstField bytes ≡ some (field, rest) → fields bytes ≡ bind (fields rest) (λ (fs : List Field). some (field ∷ fs))
 unfolding fields fieldsUpTo firstField bind
 fields-next [] field rest e = absurd (Option·none-ne-some _ e)
 fields-next (b ∷ bytes) field rest e =
@@ -205,11 +205,11 @@ fields-more (b ∷ bytes) made h k = go (firstField (b ∷ bytes))
 
 -- ---- what is laid out is read back
 
-pub length-field : (tag : ℕ) (bytes : List ℕ) → length (fieldBytes tag bytes) ≡ 3 + length bytes
+length-field : (tag : ℕ) (bytes : List ℕ) → length (fieldBytes tag bytes) ≡ 3 + length bytes
 unfolding fieldBytes bytes16
 length-field tag bytes = omega arith
 
-pub length-graph : (n : ℕ) (ends : List ℕ) → length (graphBytes n ends) ≡ 8 + 2 * length ends
+length-graph : (n : ℕ) (ends : List ℕ) → length (graphBytes n ends) ≡ 8 + 2 * length ends
 unfolding graphBytes bytes16
 length-graph n ends =
     omega (arith, length-append (fieldBytes 1 (bytes16 n)) (fieldBytes 2 (bytesOf ends)), length-field 1 (bytes16 n), length-field 2 (bytesOf ends), length-bytes ends)
@@ -218,7 +218,7 @@ length-graph n ends =
 pub most-edges : (n : ℕ) (ends : List ℕ) → length ends ≡ 2 * edgeCount ends → (length (graphBytes n ends) ≤ mostBytes → edgeCount ends ≤ 4096) × (edgeCount ends ≤ 4096 → length (graphBytes n ends) ≤ mostBytes)
 most-edges n ends e = (λ h. omega (arith, length-graph n ends), λ h. omega (arith, length-graph n ends))
 
-pub first-written : (tag : ℕ) (bytes rest : List ℕ) → firstField (fieldBytes tag bytes ++ rest) ≡ some (record { tag = tag; bytes = bytes }, rest)
+first-written : (tag : ℕ) (bytes rest : List ℕ) → firstField (fieldBytes tag bytes ++ rest) ≡ some (record { tag = tag; bytes = bytes }, rest)
 unfolding fieldBytes bytes16
 first-written tag bytes rest =
     let n = number-of-bytes (length bytes) in
@@ -247,7 +247,7 @@ read-laid bytes n ends l = ap fileOf (l .same) ∙ read-bytes n ends (l .even) (
 -- ---- what is read is laid out
 
 -- The first field's bytes stand in front.
-pub field-bytes : (bytes : List ℕ) (field : Field) (rest : List ℕ) → firstField bytes ≡ some (field, rest) → allBelow 256 bytes ≡ true
+field-bytes : (bytes : List ℕ) (field : Field) (rest : List ℕ) → firstField bytes ≡ some (field, rest) → allBelow 256 bytes ≡ true
     → (bytes ≡ fieldBytes (field .tag) (field .bytes) ++ rest) × (allBelow 256 (field .bytes) ≡ true) × (allBelow 256 rest ≡ true)
 unfolding fieldBytes
 field-bytes bytes field rest e b =

@@ -67,7 +67,7 @@ module _ (n : ℕ) (ends : List ℕ) (items presets colors : ℕ) where
         rw (q .1, q .2) (answered-accepted (itemChecks n ends items presets colors) (n, edgeCount ends) (after-graph ∙ (first-passes wrong 5 [] t ∙ all-passed)))
 
 -- What the checks leave.
-pub item-checks-passed : (n : ℕ) (ends : List ℕ) (items presets colors : ℕ) → firstRefusal (itemChecks n ends items presets colors) ≡ none → Passed n ends × (presets ≡ items) × (colors ≡ items)
+item-checks-passed : (n : ℕ) (ends : List ℕ) (items presets colors : ℕ) → firstRefusal (itemChecks n ends items presets colors) ≡ none → Passed n ends × (presets ≡ items) × (colors ≡ items)
 unfolding itemChecks
 item-checks-passed n ends items presets colors e =
     let b = passed-both (graphChecks n ends) ((wrong n ends items presets colors gives 5) ∷ []) e in
@@ -76,7 +76,7 @@ item-checks-passed n ends items presets colors e =
     (λ t. let r = and-true (eqb colors items) (eqb presets items) (not-false (eqb colors items && eqb presets items) t) in (passed n ends (b .0), eqb-true presets items (r .1), eqb-true colors items (r .0)))
 
 -- What passes them.
-pub passed-item-checks : (n : ℕ) (ends : List ℕ) (items presets colors : ℕ) → Passed n ends → presets ≡ items → colors ≡ items → firstRefusal (itemChecks n ends items presets colors) ≡ none
+passed-item-checks : (n : ℕ) (ends : List ℕ) (items presets colors : ℕ) → Passed n ends → presets ≡ items → colors ≡ items → firstRefusal (itemChecks n ends items presets colors) ≡ none
 unfolding itemChecks
 passed-item-checks n ends items presets colors p h k =
     let t : wrong n ends items presets colors ≡ false = simp (eq-eqb colors items k, eq-eqb presets items h) in
@@ -89,11 +89,11 @@ module _ (nb : ℕ → List ℕ) (items n : ℕ) (ends presets lent : List ℕ) 
   checks = itemChecks n ends items (length presets) (length lent)
 
   module _ (rule : Rule) where
-    pub items-refused : (k : ℕ) → firstRefusal checks ≡ some k → (refused k ≡ greedyItems rule nb items n ends presets lent .report) × (lent ≡ greedyItems rule nb items n ends presets lent .colors)
+    items-refused : (k : ℕ) → firstRefusal checks ≡ some k → (refused k ≡ greedyItems rule nb items n ends presets lent .report) × (lent ≡ greedyItems rule nb items n ends presets lent .colors)
     unfolding greedyItems colored
     items-refused k e = (answered-refused checks k _ e, written-refused checks k _ _ e)
 
-    pub items-accepted : firstRefusal checks ≡ none → (days : ℕ) (answer : List ℕ) → answer ≡ rule nb items presets → days ≡ daysOf answer
+    items-accepted : firstRefusal checks ≡ none → (days : ℕ) (answer : List ℕ) → answer ≡ rule nb items presets → days ≡ daysOf answer
         → (accepted days ≡ greedyItems rule nb items n ends presets lent .report) × (answer ≡ greedyItems rule nb items n ends presets lent .colors)
     unfolding greedyItems colored
     items-accepted e days answer a d = (ap accepted (d ∙ ap daysOf a) ∙ answered-accepted checks _ e, a ∙ written-accepted checks _ _ e)

@@ -201,7 +201,7 @@ module _ (nb : ℕ → List ℕ) (n : ℕ) (hood : Neighborhood nb n) where
   -- ---- one after the other
 
   -- Items outside the order keep what they have.
-  pub in-order-other : (order : List ℕ) (colors : List ℕ) → length colors ≡ n → ((v : ℕ) → Mem v order → v < n) → (u : ℕ) → (Mem u order → ⊥) → colorOf (colorInOrder nb order colors) u ≡ colorOf colors u
+  in-order-other : (order : List ℕ) (colors : List ℕ) → length colors ≡ n → ((v : ℕ) → Mem v order → v < n) → (u : ℕ) → (Mem u order → ⊥) → colorOf (colorInOrder nb order colors) u ≡ colorOf colors u
   unfolding colorInOrder
   in-order-other [] colors l inside u d = refl
   in-order-other (v ∷ order) colors l inside u d =
@@ -209,7 +209,7 @@ module _ (nb : ℕ → List ℕ) (n : ℕ) (hood : Neighborhood nb n) where
       ∙ turn-other colors l v (inside v (inl refl)) u (λ e. d (inl e))
 
   -- In an order without repeats of items without colours, all take one, and nothing else changes.
-  pub in-order-partial : (presets order colors : List ℕ) → Partial nb n presets colors → Nodup order → ((v : ℕ) → Mem v order → (v < n) × (colorOf colors v ≡ noColor))
+  in-order-partial : (presets order colors : List ℕ) → Partial nb n presets colors → Nodup order → ((v : ℕ) → Mem v order → (v < n) × (colorOf colors v ≡ noColor))
       → Partial nb n presets (colorInOrder nb order colors) × ((v : ℕ) → Mem v order → colorOf (colorInOrder nb order colors) v ≢ noColor)
   unfolding colorInOrder
   in-order-partial presets [] colors p u waiting = (p, λ v q. absurd q)

@@ -39,7 +39,7 @@ pub item-at : (n : ℕ) (listed place : List ℕ) (len : ℕ) (items : List ℕ)
 item-at n listed place len items l j h = ap (λ (x : List ℕ). getD x j 0) (sym (l .held)) ∙ getD-take len listed j 0 h
 
 -- Where an item stands.
-pub item-place : (n : ℕ) (listed place : List ℕ) (len : ℕ) (items : List ℕ) → Listing n listed place len items → (v : ℕ) → Mem v items → (getD place v 0 < len) × (getD listed (getD place v 0) 0 ≡ v)
+item-place : (n : ℕ) (listed place : List ℕ) (len : ℕ) (items : List ℕ) → Listing n listed place len items → (v : ℕ) → Mem v items → (getD place v 0 < len) × (getD listed (getD place v 0) 0 ≡ v)
 item-place n listed place len items l v p =
     let r = place-of v items 0 p in
     let h : r .0 < len = omega (arith, r .1, length-items n listed place len items l) in
@@ -59,7 +59,7 @@ place-found v (x ∷ xs) p = by-test (eqb v x)
     (λ t. let r = place-found v xs (elim p [ inl q ↦ absurd (eqb-false v x t q) | inr q ↦ q ]) in simp t (omega (arith, r .0), r .1))
 
 -- The definition's place is the code's.
-pub place-same : (n : ℕ) (listed place : List ℕ) (len : ℕ) (items : List ℕ) → Listing n listed place len items → (v : ℕ) → Mem v items → placeOf v items ≡ getD place v 0
+place-same : (n : ℕ) (listed place : List ℕ) (len : ℕ) (items : List ℕ) → Listing n listed place len items → (v : ℕ) → Mem v items → placeOf v items ≡ getD place v 0
 place-same n listed place len items l v p =
     let r = place-found v items p in
     let h : placeOf v items < len = omega (arith, r .0, length-items n listed place len items l) in
@@ -79,7 +79,7 @@ listed-there n listed place len items v l h e = sym (mem-elem v items (subst (λ
 
 -- ---- one item more
 
-pub list-push : (n m : ℕ) (listed place : List ℕ) (len : ℕ) (items : List ℕ) (v : ℕ) → Listing n listed place len items → n ≤ m → m ≤ 4096 → v < m → len < m → ((j : ℕ) → j < len → getD listed j 0 ≢ v)
+list-push : (n m : ℕ) (listed place : List ℕ) (len : ℕ) (items : List ℕ) (v : ℕ) → Listing n listed place len items → n ≤ m → m ≤ 4096 → v < m → len < m → ((j : ℕ) → j < len → getD listed j 0 ≢ v)
     → Listing m (set listed len v) (set place v len) (len + 1) (items ++ v ∷ [])
 list-push n m listed place len items v l nm bound less space new = record {
   few = bound;
@@ -156,7 +156,7 @@ module _ (n : ℕ) (listed place next : List ℕ) (len end : ℕ) (s : Lists) (h
   ]
 
   -- The item taken out is not among those that are left.
-  pub taken-gone : (j : ℕ) → j < len - 1 → getD (set listed hole last) j 0 ≢ v
+  taken-gone : (j : ℕ) → j < len - 1 → getD (set listed hole last) j 0 ≢ v
   taken-gone j b = left-at (λ (x : ℕ). x ≢ v) j b
       (λ e q. omega (arith, last-placed, ap (λ (x : ℕ). getD place x 0) q))
       (λ e. not-hole j (omega arith) e)
@@ -196,7 +196,7 @@ module _ (n : ℕ) (listed place next : List ℕ) (len end : ℕ) (s : Lists) (h
   })
 
   -- The item taken out goes to the end of the next list.
-  pub put-off-taken : (listed′ place′ : List ℕ) → listed′ ≡ set listed hole last → place′ ≡ set place last hole
+  put-off-taken : (listed′ place′ : List ℕ) → listed′ ≡ set listed hole last → place′ ≡ set place last hole
       → ListsHeld n listed′ (set place′ v end) (set next end v) (len - 1) (end + 1) (record { listed = takeOut v (s .listed); next = s .next ++ v ∷ [] })
   put-off-taken listed′ place′ p q =
       let t = taken-out listed′ place′ p q in

@@ -39,25 +39,25 @@ items-few items ends p e = by-test (items .edges) (λ t. omega (arith, rw t at e
 -- ---- by kind
 
 module _ (items : Items) (ends starts entries : List ℕ) (known : ItemsTabled items ends starts entries) where
-  pub nodes-count : items .edges ≡ false → items .count ≡ items .nodes
+  nodes-count : items .edges ≡ false → items .count ≡ items .nodes
   unfolding countOf
   nodes-count e = rw e at (known .all)
 
-  pub edges-count : items .edges ≡ true → items .count ≡ edgeCount ends
+  edges-count : items .edges ≡ true → items .count ≡ edgeCount ends
   unfolding countOf
   edges-count e = rw e at (known .all)
 
-pub nodes-neighbors : (items : Items) (ends : List ℕ) (v : ℕ) → items .edges ≡ false → neighborsOf items ends v ≡ neighbors ends (edgeCount ends) v
+nodes-neighbors : (items : Items) (ends : List ℕ) (v : ℕ) → items .edges ≡ false → neighborsOf items ends v ≡ neighbors ends (edgeCount ends) v
 unfolding neighborsOf
 nodes-neighbors items ends v e = rw e
 
-pub edges-neighbors : (items : Items) (ends : List ℕ) (k : ℕ) → items .edges ≡ true → neighborsOf items ends k ≡ edgeNeighbors (items .nodes) ends k
+edges-neighbors : (items : Items) (ends : List ℕ) (k : ℕ) → items .edges ≡ true → neighborsOf items ends k ≡ edgeNeighbors (items .nodes) ends k
 unfolding neighborsOf
 edges-neighbors items ends k e = rw e
 
 -- ---- putting off edges in a row
 
-pub put-off-append : (s : Lists) (xs ys : List ℕ) → putOffAll s (xs ++ ys) ≡ putOffAll (putOffAll s xs) ys
+put-off-append : (s : Lists) (xs ys : List ℕ) → putOffAll s (xs ++ ys) ≡ putOffAll (putOffAll s xs) ys
 unfolding putOffAll
 put-off-append s [] ys = refl
 put-off-append s (x ∷ xs) ys = put-off-append (putOff s x) xs ys

@@ -204,7 +204,7 @@ round-empty : (nb : ℕ → List ℕ) (n : ℕ) (presets : List ℕ) (r : ℕ) (
 unfolding round
 round-empty nb n presets r colors = rw (presets-empty nb presets r n (record { listed = []; next = [] }) refl) (color-empty nb r 0 [] [] colors refl)
 
-pub rounds-empty : (nb : ℕ → List ℕ) (n : ℕ) (presets : List ℕ) (more r : ℕ) (colors : List ℕ) → rounds nb n presets more r [] colors ≡ colors
+rounds-empty : (nb : ℕ → List ℕ) (n : ℕ) (presets : List ℕ) (more r : ℕ) (colors : List ℕ) → rounds nb n presets more r [] colors ≡ colors
 unfolding rounds
 rounds-empty nb n presets zero r colors = refl
 rounds-empty nb n presets (suc more) r colors = rw (round-empty nb n presets r colors) (rounds-empty nb n presets more (suc r) colors)

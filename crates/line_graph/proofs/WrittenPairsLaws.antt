@@ -23,7 +23,7 @@ unfolding placed
 placed-none l at = rw (add-zero at) (take-append-drop at l)
 
 -- From place 0 on: over the front.
-pub placed-front : (l part : List ℕ) → placed l 0 part ≡ over part l
+placed-front : (l part : List ℕ) → placed l 0 part ≡ over part l
 unfolding placed
 placed-front l part = rw (zero-add (length part))
 
@@ -31,7 +31,7 @@ front-length : (l part : List ℕ) (at : ℕ) → at ≤ length l → length (ta
 front-length l part at h = length-append (take at l) part ∙ ap (λ (n : ℕ). n + length part) (length-take-le at l h)
 
 -- One number more, right behind the part.
-pub placed-store : (l e part : List ℕ) (at place x : ℕ) → e ≡ placed l at part → place ≡ at + length part → place < length l → set e place x ≡ placed l at (part ++ (x ∷ []))
+placed-store : (l e part : List ℕ) (at place x : ℕ) → e ≡ placed l at part → place ≡ at + length part → place < length l → set e place x ≡ placed l at (part ++ (x ∷ []))
 unfolding placed
 placed-store l e part at place x p q h =
     let next : at + length (part ++ (x ∷ [])) ≡ suc (at + length part) = omega (arith, length-append part (x ∷ [])) in
@@ -41,7 +41,7 @@ placed-store l e part at place x p q h =
     ∙ append-assoc (take at l) part (x ∷ drop (suc (at + length part)) l)))
 
 -- Two parts, the second right behind the first.
-pub placed-append : (l part next : List ℕ) (at place : ℕ) → place ≡ at + length part → place ≤ length l → placed (placed l at part) place next ≡ placed l at (part ++ next)
+placed-append : (l part next : List ℕ) (at place : ℕ) → place ≡ at + length part → place ≤ length l → placed (placed l at part) place next ≡ placed l at (part ++ next)
 unfolding placed
 placed-append l part next at place q h =
     let front = take at l ++ part in
@@ -63,10 +63,10 @@ pub record Writing (before : List ℕ) (at : ℕ) (part l : List ℕ) (place : �
   pub next : place ≡ at + length part
   pub held : l ≡ placed before at part
 
-pub writing-none : (l : List ℕ) (at : ℕ) → Writing l at [] l at
+writing-none : (l : List ℕ) (at : ℕ) → Writing l at [] l at
 writing-none l at = record { next = omega arith; held = sym (placed-none l at) }
 
-pub writing-more : (before part l more l′ : List ℕ) (at place place′ : ℕ) → Writing before at part l place → place ≤ length before → l′ ≡ placed l place more → place′ ≡ place + length more → Writing before at (part ++ more) l′ place′
+writing-more : (before part l more l′ : List ℕ) (at place place′ : ℕ) → Writing before at part l place → place ≤ length before → l′ ≡ placed l place more → place′ ≡ place + length more → Writing before at (part ++ more) l′ place′
 writing-more before part l more l′ at place place′ w h e p = record {
   next = omega (arith, w .next, length-append part more);
   held = e ∙ (ap (λ (r : List ℕ). placed r place more) (w .held) ∙ placed-append before part more at place (w .next) h);
@@ -88,13 +88,13 @@ table-pairs ends starts entries n table (suc v) h = rw (table-pairs ends starts 
 
 -- ---- how many
 
-pub length-pairs-with : (k : ℕ) (js : List ℕ) → length (pairsWith k js) ≡ 2 * length js
+length-pairs-with : (k : ℕ) (js : List ℕ) → length (pairsWith k js) ≡ 2 * length js
 unfolding pairsWith
 length-pairs-with k [] = refl
 length-pairs-with k (j ∷ js) = omega (arith, length-pairs-with k js)
 
 -- d edges have d * (d - 1) / 2 pairs.
-pub length-pairs-of : (ks : List ℕ) → length (pairsOf ks) + length ks ≡ length ks * length ks
+length-pairs-of : (ks : List ℕ) → length (pairsOf ks) + length ks ≡ length ks * length ks
 unfolding pairsOf
 length-pairs-of [] = refl
 length-pairs-of (k ∷ ks) =

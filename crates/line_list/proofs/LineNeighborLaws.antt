@@ -23,12 +23,12 @@ use Rattle.line_list.proofs.PairLaws.{firstFar, secondFar, neighbors-fa
 
 -- ---- the whole list of pairs
 
-pub pairs-paired : (ends : List ℕ) (m n : ℕ) → Paired (linePairs ends m n)
+pairs-paired : (ends : List ℕ) (m n : ℕ) → Paired (linePairs ends m n)
 unfolding linePairs
 pairs-paired ends m zero = tt
 pairs-paired ends m (suc v) = paired-append (linePairs ends m v) (pairsOf (edgesAt ends m v)) (pairs-paired ends m v) (paired-of (edgesAt ends m v))
 
-pub pairs-even : (ends : List ℕ) (m n : ℕ) → length (linePairs ends m n) ≡ 2 * edgeCount (linePairs ends m n)
+pairs-even : (ends : List ℕ) (m n : ℕ) → length (linePairs ends m n) ≡ 2 * edgeCount (linePairs ends m n)
 pairs-even ends m n = paired-even (linePairs ends m n) (pairs-paired ends m n)
 
 with-member : (k j : ℕ) (js : List ℕ) → Mem j (pairsWith k js) → (j ≡ k) ⊎ Mem j js
@@ -42,7 +42,7 @@ unfolding pairsOf
 of-member j (k ∷ ks) p = elim (mem-append j (pairsWith k ks) (pairsOf ks) p) [ inl q ↦ with-member k j ks q | inr q ↦ inr (of-member j ks q) ]
 
 -- Every number of the line list is an edge below m.
-pub pairs-inside : (ends : List ℕ) (m n j : ℕ) → Mem j (linePairs ends m n) → j < m
+pairs-inside : (ends : List ℕ) (m n j : ℕ) → Mem j (linePairs ends m n) → j < m
 unfolding linePairs
 pairs-inside ends m (suc v) j p = elim (mem-append j (linePairs ends m v) (pairsOf (edgesAt ends m v)) p) [
   | inl q ↦ pairs-inside ends m v j q

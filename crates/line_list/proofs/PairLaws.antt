@@ -129,7 +129,7 @@ pub paired-append : (l r : List ℕ) → Paired l → Paired r → Paired (l ++ 
 paired-append [] r p q = q
 paired-append (x ∷ y ∷ l) r p q = paired-append l r p q
 
-pub paired-with : (k : ℕ) (js : List ℕ) → Paired (pairsWith k js)
+paired-with : (k : ℕ) (js : List ℕ) → Paired (pairsWith k js)
 unfolding pairsWith
 paired-with k [] = tt
 paired-with k (j ∷ js) = paired-with k js

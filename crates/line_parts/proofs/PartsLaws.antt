@@ -117,11 +117,11 @@ other-apart ends k = ends-cases (λ (a b : ℕ). (a ≡ b → ⊥) → isLoop en
 -- ---- what is said of a turn, as the code finds it
 
 module _ {A : Type 0} (none : A) (at : ℕ → A) (ends : List ℕ) (k turn a b : ℕ) (p : a ≡ higherEnd ends k) (q : b ≡ lowerEnd ends k) where
-  pub turn-higher : turn % 2 ≡ 0 → at a ≡ atTurn none at ends k turn
+  turn-higher : turn % 2 ≡ 0 → at a ≡ atTurn none at ends k turn
   unfolding atTurn
   turn-higher t = rw (eq-eqb (turn % 2) 0 t, p)
 
-  pub turn-lower : (turn % 2 ≡ 0 → ⊥) → (a ≡ b → ⊥) → at b ≡ atTurn none at ends k turn
+  turn-lower : (turn % 2 ≡ 0 → ⊥) → (a ≡ b → ⊥) → at b ≡ atTurn none at ends k turn
   unfolding atTurn
   turn-lower t d = rw (ne-eqb (turn % 2) 0 t, other-apart ends k (λ r. d (p ∙ (r ∙ sym q))), q)
 

@@ -95,7 +95,7 @@ unfolding below
 mem-below zero k h = absurd (not-suc-le-zero h)
 mem-below (suc n) k h = elim (dec-eq k n) [ inl p ↦ inl p | inr q ↦ inr (mem-below n k (omega arith)) ]
 
-pub below-lt : (n k : ℕ) → Mem k (below n) → k < n
+below-lt : (n k : ℕ) → Mem k (below n) → k < n
 unfolding below
 below-lt (suc n) k (inl p) = omega arith
 below-lt (suc n) k (inr p) = omega (arith, below-lt n k p)
@@ -105,7 +105,7 @@ unfolding below
 length-below zero = refl
 length-below (suc n) = ap suc (length-below n)
 
-pub nodup-below : (n : ℕ) → Nodup (below n)
+nodup-below : (n : ℕ) → Nodup (below n)
 unfolding below
 nodup-below zero = tt
 nodup-below (suc n) = (λ p. omega (arith, below-lt n n p), nodup-below n)
@@ -155,11 +155,11 @@ distinct-nodup (x ∷ xs) = by-test (elem x xs)
     (λ t. rw (t, distinct) (λ p. elem-false x xs t (distinct-member xs x p), distinct-nodup xs))
 
 -- A list without repeats, all of whose members ys has, is no longer than the different numbers of ys.
-pub different-bound : (xs ys : List ℕ) → Nodup xs → ((k : ℕ) → Mem k xs → Mem k ys) → length xs ≤ different ys
+different-bound : (xs ys : List ℕ) → Nodup xs → ((k : ℕ) → Mem k xs → Mem k ys) → length xs ≤ different ys
 unfolding different
 different-bound xs ys u s = pigeonhole xs (distinct ys) u (λ k p. member-distinct ys k (s k p))
 
-pub different-le : (xs ys : List ℕ) → ((k : ℕ) → Mem k xs → Mem k ys) → different xs ≤ different ys
+different-le : (xs ys : List ℕ) → ((k : ℕ) → Mem k xs → Mem k ys) → different xs ≤ different ys
 unfolding different
 different-le xs ys s = different-bound (distinct xs) ys (distinct-nodup xs) (λ k p. s k (distinct-member xs k p))
 

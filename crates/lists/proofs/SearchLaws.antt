@@ -2,9 +2,9 @@
 use Prim.Native.Nat.{ℕ, zero, suc, _<_, _+_, _≤_}
 use mathlib.Core.Bool.{true, false≢true, Bool, false, _&&_}
 use mathlib.Core.List.{List, [], _∷_, _++_}
-use mathlib.Core.Path.{_≡_, refl, ap₂, sym, ap, _∙_}
+use mathlib.Core.Path.{_≡_, refl, sym, ap, _∙_}
 use lib.Dec.{eqb, ltb}
-use borrow.Author.Tests.{eqb-true, eq-eqb, lt-ltb, le-ltb, ltb-true}
+use borrow.Author.Tests.{eq-eqb, lt-ltb, le-ltb, ltb-true}
 use mathlib.Core.Logic.{inl, inr}
 use native.Mathlib.Omega.{arith}
 use native.Mathlib.Nat.{not-suc-le-zero}
@@ -17,13 +17,6 @@ use Rattle.lists.specs.Equal.{equal}
 use Rattle.lists.specs.Tabulate.{tabulate}
 use Rattle.lists.specs.Search.{allBelow, any, firstThat}
 use Rattle.lists.specs.Member.{Mem}
-
-pub equal-true : (xs ys : List ℕ) → equal xs ys ≡ true → xs ≡ ys
-unfolding equal
-equal-true [] [] e = refl
-equal-true [] (y ∷ ys) e = absurd (false≢true e)
-equal-true (x ∷ xs) [] e = absurd (false≢true e)
-equal-true (x ∷ xs) (y ∷ ys) e = let r = and-true (eqb x y) (equal xs ys) e in ap₂ (λ (a : ℕ) (l : List ℕ). a ∷ l) (eqb-true x y (r .0)) (equal-true xs ys (r .1))
 
 pub equal-self : (xs : List ℕ) → equal xs xs ≡ true
 unfolding equal

@@ -93,13 +93,13 @@ module _ (ends colors : List ℕ) where
       (append-bound daysWord d 5 6 (omega arith) (followed-length days lineFeed h))
       (omega (arith, lines-length (edgeCount ends) (edgeCount ends) s (omega arith)))
 
-pub refused-length : (number : ℕ) → number < 100000 → length (refusedText number) ≤ 14
+refused-length : (number : ℕ) → number < 100000 → length (refusedText number) ≤ 14
 unfolding refusedText
 refused-length number h = append-bound refusedWord (followed number lineFeed) 8 6 (omega arith) (followed-length number lineFeed h)
 
 -- ---- the numbers of the checks
 
-pub refused-below : (n : ℕ) (ends lent : List ℕ) (k : ℕ) → firstRefusal (misraGriesChecks n ends lent) ≡ some k → k < 8
+refused-below : (n : ℕ) (ends lent : List ℕ) (k : ℕ) → firstRefusal (misraGriesChecks n ends lent) ≡ some k → k < 8
 unfolding misraGriesChecks graphChecks numbersPass
 refused-below n ends lent k e = ltb-true k 8 (refusal-passes (λ (j : ℕ). ltb j 8) (misraGriesChecks n ends lent) k refl e)
 
@@ -143,7 +143,7 @@ module _ (n : ℕ) (ends lent : List ℕ) where
       omega (arith, rw e at b, q .2, color-read cs (q .0) noColor (q .1)))
 
   -- The text of every call has this many bytes at most.
-  pub outcome-bound : length (outcomeText ends (misraGries n ends lent)) ≤ 98330
+  outcome-bound : length (outcomeText ends (misraGries n ends lent)) ≤ 98330
   outcome-bound = elim (some-or-none (firstRefusal (misraGriesChecks n ends lent))) [
     | inl e ↦
         let p = passed-admitted n ends lent e in
@@ -157,7 +157,7 @@ module _ (n : ℕ) (ends lent : List ℕ) where
     | inr (k, e) ↦ rw (refuses k e) (omega (arith, refused-length k (omega (arith, refused-below n ends lent k e))))
   ]
 
-pub colored-bound : (n : ℕ) (ends : List ℕ) → length (coloredText n ends) ≤ 98330
+colored-bound : (n : ℕ) (ends : List ℕ) → length (coloredText n ends) ≤ 98330
 unfolding coloredText
 colored-bound n ends = outcome-bound n ends (replicate (edgeCount ends) noColor)
 
@@ -167,11 +167,11 @@ file-or-none : (o : Option File) → (o ≡ none) ⊎ ((file : File) × (o ≡ s
 file-or-none none = inl refl
 file-or-none (some file) = inr (file, refl)
 
-pub no-file-text : (bytes : List ℕ) → fileOf bytes ≡ none → fileText bytes ≡ refusedText 10
+no-file-text : (bytes : List ℕ) → fileOf bytes ≡ none → fileText bytes ≡ refusedText 10
 unfolding fileText
 no-file-text bytes e = rw (e, fileText)
 
-pub file-text : (bytes : List ℕ) (file : File) → fileOf bytes ≡ some file → fileText bytes ≡ coloredText (file .nodes) (file .ends)
+file-text : (bytes : List ℕ) (file : File) → fileOf bytes ≡ some file → fileText bytes ≡ coloredText (file .nodes) (file .ends)
 unfolding fileText
 file-text bytes file e = rw (e, fileText)
 
@@ -233,7 +233,7 @@ module _ (bytes lent : List ℕ) (c : FileAnswer) (ends : List ℕ) (room : leng
     read-edges = let f = found in omega (arith, f .1 .edges, f .2)
 
     -- The ends of the file are the first 2m numbers of the list.
-    pub read-ends : fileText bytes ≡ coloredText n (take (2 * m) ends)
+    read-ends : fileText bytes ≡ coloredText n (take (2 * m) ends)
     read-ends =
         let f = found in
         let l = f .1 in
@@ -248,11 +248,11 @@ module _ (bytes lent : List ℕ) (c : FileAnswer) (ends : List ℕ) (room : leng
 
 -- ---- the answers of a call
 
-pub refused-answer : (ends : List ℕ) (o : Outcome) (c : Coloring) (r : Refusal) → reportOfColoring c ≡ o .report → c ≡ O.Refused r → outcomeText ends o ≡ refusedText (number r)
+refused-answer : (ends : List ℕ) (o : Outcome) (c : Coloring) (r : Refusal) → reportOfColoring c ≡ o .report → c ≡ O.Refused r → outcomeText ends o ≡ refusedText (number r)
 unfolding outcomeText reportText
 refused-answer ends o c r e p = rw (sym e, p)
 
-pub accepted-answer : (ends : List ℕ) (o : Outcome) (c : Coloring) (days : ℕ) (colors : List ℕ) → reportOfColoring c ≡ o .report → c ≡ O.Accepted days → colors ≡ o .colors → outcomeText ends o ≡ daysText days ends colors
+accepted-answer : (ends : List ℕ) (o : Outcome) (c : Coloring) (days : ℕ) (colors : List ℕ) → reportOfColoring c ≡ o .report → c ≡ O.Accepted days → colors ≡ o .colors → outcomeText ends o ≡ daysText days ends colors
 unfolding outcomeText reportText
 accepted-answer ends o c days colors e p q = rw (sym e, p, q)
 

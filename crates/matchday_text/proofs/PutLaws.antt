@@ -29,11 +29,11 @@ places-enough (suc f) (suc g) x h k =
     (λ t. let b = ltb-true 9 x t in rw (t, digits) (ap (λ (l : List ℕ). l ++ ((48 + x % 10) ∷ [])) (places-enough f g (x / 10) (omega arith) (omega arith))))
     (λ t. rw (t, digits))
 
-pub decimal-digit : (x : ℕ) → x < 10 → decimal x ≡ (48 + x) ∷ []
+decimal-digit : (x : ℕ) → x < 10 → decimal x ≡ (48 + x) ∷ []
 unfolding decimal digits
 decimal-digit x h = rw (le-ltb 9 x (let b : x ≤ 9 = omega arith in b), digits)
 
-pub decimal-more : (x : ℕ) → 10 ≤ x → decimal x ≡ decimal (x / 10) ++ ((48 + x % 10) ∷ [])
+decimal-more : (x : ℕ) → 10 ≤ x → decimal x ≡ decimal (x / 10) ++ ((48 + x % 10) ∷ [])
 unfolding decimal digits
 decimal-more x h = rw (lt-ltb 9 x (let b : 9 < x = omega arith in b), digits) (ap (λ (l : List ℕ). l ++ ((48 + x % 10) ∷ [])) (places-enough x (suc (x / 10)) (x / 10) (omega arith) (omega arith)))
 
@@ -101,7 +101,7 @@ overwrite-append text at (b ∷ s) t =
     let e : suc at + length s ≡ at + suc (length s) = omega arith in
     overwrite-append (set text at b) (suc at) s t ∙ ap (λ (i : ℕ). overwrite (overwrite (set text at b) (suc at) s) i t) e
 
-pub put-then : (before : List ℕ) (at : ℕ) (s middle : List ℕ) (next : ℕ) (t after : List ℕ) (end : ℕ) → Put before at s middle next → Put middle next t after end → Put before at (s ++ t) after end
+put-then : (before : List ℕ) (at : ℕ) (s middle : List ℕ) (next : ℕ) (t after : List ℕ) (end : ℕ) → Put before at s middle next → Put middle next t after end → Put before at (s ++ t) after end
 put-then before at s middle next t after end p q = record {
   text = q .text ∙ rw (p .text, p .end) (sym (overwrite-append before at s t));
   end = let e = length-append s t in omega (arith, p .end, q .end);
@@ -110,7 +110,7 @@ put-then before at s middle next t after end p q = record {
 pub room-first : (at : ℕ) (s t : List ℕ) → Room at (s ++ t) → Room at s
 room-first at s t r = let e = length-append s t in record { below = omega (arith, r .below) }
 
-pub room-next : (before : List ℕ) (at : ℕ) (s middle : List ℕ) (next : ℕ) (t : List ℕ) → Room at (s ++ t) → Put before at s middle next → Room next t
+room-next : (before : List ℕ) (at : ℕ) (s middle : List ℕ) (next : ℕ) (t : List ℕ) → Room at (s ++ t) → Put before at s middle next → Room next t
 room-next before at s middle next t r p = let e = length-append s t in record { below = omega (arith, r .below, p .end) }
 
 -- ---- from the front

@@ -43,10 +43,10 @@ unfolding greatestColor
 greatest-colored c cs n = by-test (ltb (greatestColor cs) c) (λ t. simp (t, ne-eqb c 65535 n)) (λ t. simp t)
 
 -- The places that a list of colours has from m on are uncoloured.
-abbrev pub Blank : List ℕ → ℕ → Type 0
+abbrev Blank : List ℕ → ℕ → Type 0
 Blank l m = (j : ℕ) → m ≤ j → colorOf l j ≡ noColor
 
-pub greatest-blank : (l : List ℕ) → Blank l 0 → greatestColor l ≡ 0
+greatest-blank : (l : List ℕ) → Blank l 0 → greatestColor l ≡ 0
 unfolding greatestColor colorOf
 greatest-blank [] b = refl
 greatest-blank (c ∷ cs) b = greatest-uncolored c cs (b 0 (omega arith)) ∙ greatest-blank cs (λ j h. b (suc j) (omega arith))
@@ -59,14 +59,14 @@ greatest-none : greatestColor [] ≡ 0
 unfolding greatestColor
 greatest-none = refl
 
-pub greatest-front : (l : List ℕ) (m : ℕ) → Blank l m → greatestColor l ≡ greatestColor (take m l)
+greatest-front : (l : List ℕ) (m : ℕ) → Blank l m → greatestColor l ≡ greatestColor (take m l)
 unfolding colorOf
 greatest-front l zero b = greatest-blank l b ∙ sym greatest-none
 greatest-front [] (suc m) b = refl
 greatest-front (c ∷ cs) (suc m) b = greatest-cons c cs (take m cs) (greatest-front cs m (λ j h. b (suc j) (omega arith)))
 
 -- Of coloured places only, one at least.
-pub days-greatest : (c : ℕ) (cs : List ℕ) → ((j : ℕ) → j < length (c ∷ cs) → colorOf (c ∷ cs) j ≢ noColor) → daysOf (c ∷ cs) ≡ suc (greatestColor (c ∷ cs))
+days-greatest : (c : ℕ) (cs : List ℕ) → ((j : ℕ) → j < length (c ∷ cs) → colorOf (c ∷ cs) j ≢ noColor) → daysOf (c ∷ cs) ≡ suc (greatestColor (c ∷ cs))
 unfolding colorOf
 days-greatest c [] n =
     days-colored c [] (n 0 (omega arith)) ∙ (by-test (ltb c (daysOf [])) (λ t. absurd (omega (arith, ltb-true c (daysOf []) t, days-empty))) (λ t. simp t (ap suc (last (n 0 (omega arith))))))
@@ -81,7 +81,7 @@ days-greatest c (x ∷ xs) n =
     (λ t. simp t (ap suc (sym (g ∙ by-test (ltb (greatestColor (x ∷ xs)) c) (λ u. simp u) (λ u. simp u (omega (arith, ltb-false c (daysOf (x ∷ xs)) t, ltb-false (greatestColor (x ∷ xs)) c u))))))))
 
 -- Days of the first m colours, the others being uncoloured, from m and the greatest colour alone.
-pub days-read : (l : List ℕ) (m : ℕ) → m ≤ length l → Blank l m → ((j : ℕ) → j < m → colorOf l j ≢ noColor) → daysOf (take m l) ≡ cond (eqb m 0) 0 (suc (greatestColor l))
+days-read : (l : List ℕ) (m : ℕ) → m ≤ length l → Blank l m → ((j : ℕ) → j < m → colorOf l j ≢ noColor) → daysOf (take m l) ≡ cond (eqb m 0) 0 (suc (greatestColor l))
 days-read l zero h b n = days-empty
 days-read [] (suc m) h b n = absurd (omega arith)
 days-read (c ∷ cs) (suc m) h b n =
@@ -94,7 +94,7 @@ days-read (c ∷ cs) (suc m) h b n =
 
 -- ---- the run
 
-pub run-kept : (n : ℕ) (ends : List ℕ) → Admitted n ends → (k : ℕ) → k ≤ edgeCount ends → Invariant ends (edgeCount ends) (InRange n ends) k (held n ends k)
+run-kept : (n : ℕ) (ends : List ℕ) → Admitted n ends → (k : ℕ) → k ≤ edgeCount ends → Invariant ends (edgeCount ends) (InRange n ends) k (held n ends k)
 unfolding held
 run-kept n ends a = run-keeps ends (edgeCount ends) n (InRange n ends) (a .simple) (a .inside) (a .edges) (palette n ends a)
 
@@ -105,7 +105,7 @@ fits-table : (n : ℕ) (ends : List ℕ) → Admitted n ends → FitsTable ends 
 fits-table n ends a = record { edges = a .edges; nodes = λ k h. (omega (arith, a .inside k h .0, a .nodes), omega (arith, a .inside k h .1, a .nodes)) }
 
 -- The start: no edge coloured, an empty table, no marks, nothing tallied.
-pub running-start : (n : ℕ) (ends starts entries marks : List ℕ) (N : ℕ) → Admitted n ends → Table ends n starts entries → edgeCount ends ≤ length marks → ((j : ℕ) → getD marks j 0 ≡ 0) → N ≡ 294912
+running-start : (n : ℕ) (ends starts entries marks : List ℕ) (N : ℕ) → Admitted n ends → Table ends n starts entries → edgeCount ends ≤ length marks → ((j : ℕ) → getD marks j 0 ≡ 0) → N ≡ 294912
     → Running n ends starts entries (replicate 4096 noColor) (replicate N noEdge) marks (record { edges = 0; greatest = 0 }) 0
 unfolding held heldAfter
 running-start n ends starts entries marks N a rows size blank e = record {

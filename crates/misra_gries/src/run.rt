@@ -2,7 +2,7 @@
 ghost use Rattle.graph.specs.Edges.{edgeCount};
 ghost use Rattle.misra_gries.specs.Step.{Running};
 use crate::tally::Tally;
-use crate::tally::step_kept;
+use crate::tally::step_by_value;
 use graph::EdgeIndex;
 
 // Colours every edge in turn, and tallies them.
@@ -26,7 +26,7 @@ pub(crate) fn run(
     };
     let mut k = 0;
     while k < m {
-        tally = step_kept(
+        tally = step_by_value(
             tally,
             n,
             ends,

@@ -126,7 +126,7 @@ fn rotate_fan(ends: &[u16], work: &mut [u16], table: &mut [u16], fan: &[u16], d:
 }
 
 // Steps 2 to 5 for an edge whose fan is given. The answer is the one new colour that may be greater than all before.
-fn turn(
+fn exchange_and_rotate(
     n: usize,
     ends: &[u16],
     work: &mut [u16],
@@ -182,5 +182,5 @@ pub(crate) fn step(
         node,
         &mut fan,
     );
-    turn(n, ends, work, table, &fan[..len], edge, node, far)
+    exchange_and_rotate(n, ends, work, table, &fan[..len], edge, node, far)
 }

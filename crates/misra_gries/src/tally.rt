@@ -58,7 +58,7 @@ pub(crate) fn step_tallied(
 }
 
 // The same with the tally by value.
-pub(crate) fn step_kept(
+pub(crate) fn step_by_value(
     tally: Tally,
     n: usize,
     ends: &[u16],

@@ -54,7 +54,7 @@ path-ended ends T (suc fuel) (suc more) v p q h k = elim (some-or-none (tableEdg
 -- `Node` tells at which nodes the table is right; every far end is one of them.
 module _ (ends : List ℕ) (m : ℕ) (l T : List ℕ) (Node : ℕ → Type 0) (far : (k v : ℕ) → k < m → Node (farEnd ends k v)) where
   -- Of colour c the table says the edge that l gives it.
-  abbrev pub SaysEdge : ℕ → Type 0
+  abbrev SaysEdge : ℕ → Type 0
   SaysEdge c = (v : ℕ) → Node v → tableEdge T v c ≡ edgeOfColor l c (edgesAt ends m v)
 
   pub table-path : (n v p q : ℕ) → Node v → SaysEdge p → SaysEdge q → tablePath ends T n v p q ≡ path ends m n l v p q

@@ -35,11 +35,11 @@ use Rattle.vizing.proofs.StepLaws.{FoundLaws}
 -- ---- when a list is the edge table of a working list, that it is so at the start, and what it then answers
 
 -- The table beside the working list is its table.
-abbrev pub HasTable : List ℕ → ℕ → State → Type 0
+abbrev HasTable : List ℕ → ℕ → State → Type 0
 HasTable ends m s = TableOf ends m (s .work) (s .table)
 
 -- A function that left the two lists l′ and T′.
-pub leaves-table : (ends : List ℕ) (m : ℕ) (l l′ T′ : List ℕ) (s : State) → state l′ T′ ≡ s → s .work ≡ l → TableOf ends m l (s .table) → (l′ ≡ l) × TableOf ends m l′ T′
+leaves-table : (ends : List ℕ) (m : ℕ) (l l′ T′ : List ℕ) (s : State) → state l′ T′ ≡ s → s .work ≡ l → TableOf ends m l (s .table) → (l′ ≡ l) × TableOf ends m l′ T′
 leaves-table ends m l l′ T′ s e w L = (ap (λ (r : State). r .work) e ∙ w, subst (HasTable ends m) (sym e) (rw w L))
 
 -- ---- the start
@@ -134,12 +134,12 @@ entry-other T v c x u a n = go (decLt u 512) (decLt v 512)
         ∙ getD-set-other T (c * 512 + v) (a * 512 + u) x noEdge (λ e. n (place-injective u a v c ha hc e))
         ∙ sym (entry-place T u a ha))
 
-pub length-entered-at-ends : (ends T : List ℕ) (k c x : ℕ) → length (enteredAtEnds ends T k c x) ≡ length T
+length-entered-at-ends : (ends T : List ℕ) (k c x : ℕ) → length (enteredAtEnds ends T k c x) ≡ length T
 unfolding enteredAtEnds
 length-entered-at-ends ends T k c x = length-entered (entered T (firstEnd ends k) c x) (secondEnd ends k) c x ∙ length-entered T (firstEnd ends k) c x
 
 -- At the ends of the edge the entry stands, also at a loop's one end.
-pub entry-at-end : (ends T : List ℕ) (k c x v : ℕ) → (firstEnd ends k < 512) × (secondEnd ends k < 512) → c * 512 + firstEnd ends k < length T → c * 512 + secondEnd ends k < length T → At ends k v
+entry-at-end : (ends T : List ℕ) (k c x v : ℕ) → (firstEnd ends k < 512) × (secondEnd ends k < 512) → c * 512 + firstEnd ends k < length T → c * 512 + secondEnd ends k < length T → At ends k v
     → entryAt (enteredAtEnds ends T k c x) v c ≡ x
 unfolding enteredAtEnds
 entry-at-end ends T k c x v b f s at = go (dec-eq v (secondEnd ends k)) at
@@ -153,7 +153,7 @@ entry-at-end ends T k c x v b f s at = go (dec-eq v (secondEnd ends k)) at
     go (inr n) (inr e) = absurd (n (sym e))
 
 -- Everywhere else the entry is as before.
-pub entry-elsewhere : (ends T : List ℕ) (k c x v a : ℕ) → (At ends k v × (a ≡ c) → ⊥) → entryAt (enteredAtEnds ends T k c x) v a ≡ entryAt T v a
+entry-elsewhere : (ends T : List ℕ) (k c x v a : ℕ) → (At ends k v × (a ≡ c) → ⊥) → entryAt (enteredAtEnds ends T k c x) v a ≡ entryAt T v a
 unfolding enteredAtEnds
 entry-elsewhere ends T k c x v a n =
     entry-other (entered T (firstEnd ends k) c x) (secondEnd ends k) c x v a (λ p. n (inr (sym (p .0)), p .1))
@@ -299,7 +299,7 @@ module _ (ends : List ℕ) (m : ℕ) (l T : List ℕ) (L : TableOf ends m l T) (
       ]
 
   -- Edge k loses its colour, if it has one.
-  pub uncolor-keeps : TableOf ends m (set l k noColor) (uncolored ends (state l T) k .table)
+  uncolor-keeps : TableOf ends m (set l k noColor) (uncolored ends (state l T) k .table)
   unfolding uncolored
   uncolor-keeps = uncolored-table
 
@@ -321,7 +321,7 @@ module _ (ends : List ℕ) (m : ℕ) (l T : List ℕ) (L : TableOf ends m l T) (
         only v at j p z = elim (dec-eq j k) [ inl q ↦ q | inr q ↦ absurd (free v (h, at) j (edge-at ends m v j p) (sym (color-set-other l k c j q) ∙ z)) ]
 
     -- Edge k, which has none, takes a colour that is free at its ends.
-    pub color-keeps : TableOf ends m (set l k c) (colored ends (state l T) k c .table)
+    color-keeps : TableOf ends m (set l k c) (colored ends (state l T) k c .table)
     unfolding colored
     color-keeps = record {
       fits = L .fits;
@@ -383,7 +383,7 @@ module _ (ends : List ℕ) where
   colored-work s (k ∷ ks) [] = refl
   colored-work s (k ∷ ks) (c ∷ cs) = colored-work (colored ends s k c) ks cs
 
-  pub repainted-work : (s : State) (ks cs : List ℕ) → length ks ≡ length cs → Nodup ks → repainted ends s ks cs .work ≡ store (s .work) ks cs
+  repainted-work : (s : State) (ks cs : List ℕ) → length ks ≡ length cs → Nodup ks → repainted ends s ks cs .work ≡ store (s .work) ks cs
   unfolding repainted
   repainted-work s ks cs e u = colored-work (allUncolored ends s ks) ks cs ∙ (rw (uncolored-work s ks) (store-cleared (s .work) ks cs e u))
 
@@ -452,7 +452,7 @@ module _ (ends : List ℕ) (m : ℕ) where
         w : s′ .work ≡ cleared l ks
         w = uncolored-work ends (state l T) ks
 
-    pub repaint-keeps : TableOf ends m (store l ks cs) (repainted ends (state l T) ks cs .table)
+    repaint-keeps : TableOf ends m (store l ks cs) (repainted ends (state l T) ks cs .table)
     repaint-keeps = rw (repainted-work ends (state l T) ks cs (R .same-length) (R .nodup)) at repainted-table
 
     -- The same, as the code leaves the two lists.
@@ -470,7 +470,7 @@ module _ (ends : List ℕ) (m : ℕ) (l T : List ℕ) (L : TableOf ends m l T) (
 
 -- ---- what each is given
 
-pub exchange-repaintable : (ends : List ℕ) (m : ℕ) (l : List ℕ) (u c d : ℕ) (ks : List ℕ)
+exchange-repaintable : (ends : List ℕ) (m : ℕ) (l : List ℕ) (u c d : ℕ) (ks : List ℕ)
     → Exchanged (Incident ends m) (farEnd ends) (colorOf l) (colorOf (exchange l c d ks)) u c d ks → Nodup ks → ((k : ℕ) → Mem k ks → k < m) → c < 576 → d < 576
     → Repaintable ends m l ks (exchangedColors l c d ks)
 unfolding exchange
@@ -484,7 +484,7 @@ exchange-repaintable ends m l u c d ks E nodup inside low-c low-d = record {
   proper = exchange-proper E;
 }
 
-pub rotate-repaintable : (ends : List ℕ) (m : ℕ) (l T : List ℕ) (k : ℕ) (ks : List ℕ) (d : ℕ) → TableOf ends m l T
+rotate-repaintable : (ends : List ℕ) (m : ℕ) (l T : List ℕ) (k : ℕ) (ks : List ℕ) (d : ℕ) → TableOf ends m l T
     → Proper (Incident ends m) (colorOf (rotatePlaces l k ks d)) → Nodup (k ∷ ks) → ((j : ℕ) → Mem j (k ∷ ks) → j < m) → ((j : ℕ) → Mem j ks → colorOf l j ≢ noColor) → d < 576
     → Repaintable ends m l (k ∷ ks) (rotatedColors l ks d)
 unfolding rotatePlaces

@@ -83,7 +83,8 @@ fn call_coloring(
     let colors = &mut list[..c];
     lend(colors);
     let answer = color(n, ends, presets, line, colors);
-    let end = put_name(text, waiting, line.name);
+    let name = line.name;
+    let end = put_name(text, waiting, name);
     put_colored(text, end, b"", answer, colors)
 }
 

@@ -41,11 +41,11 @@ count-mem k xs h = elim (dec-mem k xs) [ inl p ↦ p | inr p ↦ absurd (omega (
 unfoldable pub colorsAmong : List ℕ → List ℕ → List ℕ
 colorsAmong colors us = map (colorOf colors) (coloredAmong colors us)
 
-pub color-among : (colors us : List ℕ) (c u : ℕ) → Mem u us → colorOf colors u ≡ c → c ≢ noColor → Mem c (colorsAmong colors us)
+color-among : (colors us : List ℕ) (c u : ℕ) → Mem u us → colorOf colors u ≡ c → c ≢ noColor → Mem c (colorsAmong colors us)
 unfolding colorsAmong
 color-among colors us c u p e n = subst (λ (x : ℕ). Mem x (map (colorOf colors) (coloredAmong colors us))) e (mem-map (colorOf colors) u (coloredAmong colors us) (edge-colored colors us u p (λ z. n (sym e ∙ z))))
 
-pub among-color : (colors us : List ℕ) (c : ℕ) → Mem c (colorsAmong colors us) → (u : ℕ) × Mem u us × (colorOf colors u ≡ c) × (c ≢ noColor)
+among-color : (colors us : List ℕ) (c : ℕ) → Mem c (colorsAmong colors us) → (u : ℕ) × Mem u us × (colorOf colors u ≡ c) × (c ≢ noColor)
 unfolding colorsAmong
 among-color colors us c p =
     let r = map-mem (colorOf colors) c (coloredAmong colors us) p in

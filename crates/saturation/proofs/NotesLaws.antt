@@ -43,10 +43,10 @@ more-noted a b s₀ w₀ m₀ s w m s′ w′ m′ p q = record {
   ];
 }
 
-pub noted-none : (colors saturations waiting marks : List ℕ) → Noted colors [] saturations waiting marks saturations waiting marks
+noted-none : (colors saturations waiting marks : List ℕ) → Noted colors [] saturations waiting marks saturations waiting marks
 noted-none colors saturations waiting marks = record { at = λ u h e. rw (count-none u [] (λ p. p)) (none-noted _ _ _); kept = λ u n. (refl, refl) }
 
-pub noted-more : (colors us ws s₀ w₀ m₀ s w m s′ w′ m′ : List ℕ) → Noted colors us s₀ w₀ m₀ s w m → Noted colors ws s w m s′ w′ m′ → Noted colors (us ++ ws) s₀ w₀ m₀ s′ w′ m′
+noted-more : (colors us ws s₀ w₀ m₀ s w m s′ w′ m′ : List ℕ) → Noted colors us s₀ w₀ m₀ s w m → Noted colors ws s w m s′ w′ m′ → Noted colors (us ++ ws) s₀ w₀ m₀ s′ w′ m′
 noted-more colors us ws s₀ w₀ m₀ s w m s′ w′ m′ p q = record {
   at = λ u h e. rw (count-append u us ws) (more-noted _ _ _ _ _ _ _ _ _ _ _ (p .at u h e) (q .at u h e));
   kept = λ u n. let x = p .kept u n in let y = q .kept u n in (y .0 ∙ x .0, y .1 ∙ x .1);
@@ -95,7 +95,7 @@ pub room-first : (colors us ws s w m : List ℕ) → NotesRoom colors (us ++ ws)
 room-first colors us ws s w m room = record { at = λ u h e. let r = room .at u h e in (omega (arith, r .0, count-append u us ws), r .1) }
 
 -- What is left of the room after the first of them.
-pub room-left : (colors us ws s₀ w₀ m₀ s w m : List ℕ) → NotesRoom colors (us ++ ws) s₀ w₀ m₀ → Noted colors us s₀ w₀ m₀ s w m → NotesRoom colors ws s w m
+room-left : (colors us ws s₀ w₀ m₀ s w m : List ℕ) → NotesRoom colors (us ++ ws) s₀ w₀ m₀ → Noted colors us s₀ w₀ m₀ s w m → NotesRoom colors ws s w m
 room-left colors us ws s₀ w₀ m₀ s w m room noted = record {
   at = λ u h e.
       let r = room .at u h e in

@@ -27,11 +27,11 @@ use Rattle.color_marks.specs.Marks.{around, stored, markOf}
 
 -- ---- a colour taken
 
-pub saturation-among : (nb : ℕ → List ℕ) (colors : List ℕ) (v : ℕ) → saturation nb colors v ≡ different (colorsAmong colors (nb v))
+saturation-among : (nb : ℕ → List ℕ) (colors : List ℕ) (v : ℕ) → saturation nb colors v ≡ different (colorsAmong colors (nb v))
 unfolding saturation colorsAmong
 saturation-among nb colors v = refl
 
-pub waiting-among : (nb : ℕ → List ℕ) (colors : List ℕ) (v : ℕ) → uncoloredNeighbors nb colors v ≡ uncoloredAmong colors (nb v)
+waiting-among : (nb : ℕ → List ℕ) (colors : List ℕ) (v : ℕ) → uncoloredNeighbors nb colors v ≡ uncoloredAmong colors (nb v)
 unfolding uncoloredNeighbors
 waiting-among nb colors v = refl
 

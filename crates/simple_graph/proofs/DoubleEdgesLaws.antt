@@ -24,9 +24,17 @@ use Rattle.graph.specs.Stretch.{stretch, Table}
 use Rattle.vizing.specs.MisraGries.{hasLoop, hasDoubleEdge}
 use Rattle.vizing.specs.Simple.{SameEnds, Incident}
 use Rattle.vizing.proofs.SimpleLaws.{simple-no-double, passed-simple, simple-graph}
-use Rattle.simple_graph.specs.DoubleEdges.{farAt, Twice, Distinct, Tells, SeenReady, Seen, Before}
+use Rattle.simple_graph.specs.DoubleEdges.{farAt, Twice, Distinct, Tells, SeenReady}
 
 -- ---- one node
+
+module _ (ends edges : List ℕ) (v : ℕ) where
+  -- After the first i edges: they have different far ends, and just these have v's stamp.
+  pub record Seen (i : ℕ) (seen : List ℕ) : Type 0 where
+    pub distinct : Distinct ends edges v i
+    pub stamped : (a : ℕ) → a < i → getD seen (farAt ends edges v a) 0 ≡ v + 1
+    pub only : (w : ℕ) → getD seen w 0 ≡ v + 1 → (a : ℕ) × (a < i) × (farAt ends edges v a ≡ w)
+    pub low : (w : ℕ) → getD seen w 0 ≤ v + 1
 
 module _ (ends edges : List ℕ) (v : ℕ) where
   pub seen-none : (seen : List ℕ) → SeenReady ends edges v seen → Seen ends edges v 0 seen
@@ -79,6 +87,12 @@ module _ (ends edges : List ℕ) (v : ℕ) where
   }
 
 -- ---- the whole graph
+
+-- When it is node v's turn: no node before it has two edges with the same far end, and no stamp is above v.
+pub record Before (ends : List ℕ) (v : ℕ) (seen : List ℕ) : Type 0 where
+  pub distinct : (u : ℕ) → u < v → Distinct ends (edgesAt ends (edgeCount ends) u) u (length (edgesAt ends (edgeCount ends) u))
+  pub old : (w : ℕ) → getD seen w 0 ≤ v
+  pub size : length seen ≡ 512
 
 -- A list without repeats has different numbers at different places.
 nodup-places : (xs : List ℕ) → Nodup xs → (a b : ℕ) → a < b → b < length xs → getD xs a 0 ≢ getD xs b 0

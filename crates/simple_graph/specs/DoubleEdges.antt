@@ -6,7 +6,7 @@ use mathlib.Core.Logic.{_≢_}
 use mathlib.Core.List.{List}
 use mathlib.Core.Bool.{Bool, true, false}
 use lib.ListN.{length, getD}
-use Rattle.graph.specs.Edges.{edgeCount, farEnd, edgesAt}
+use Rattle.graph.specs.Edges.{farEnd}
 
 -- ---- one node
 
@@ -36,18 +36,3 @@ module _ (ends edges : List ℕ) (v : ℕ) where
   pub record SeenReady (seen : List ℕ) : Type 0 where
     pub inside : (i : ℕ) → i < length edges → farAt i < length seen
     pub old : (w : ℕ) → getD seen w 0 ≤ v
-
-  -- After the first i edges: they have different far ends, and just these have v's stamp.
-  pub record Seen (i : ℕ) (seen : List ℕ) : Type 0 where
-    pub distinct : Distinct i
-    pub stamped : (a : ℕ) → a < i → getD seen (farAt a) 0 ≡ v + 1
-    pub only : (w : ℕ) → getD seen w 0 ≡ v + 1 → (a : ℕ) × (a < i) × (farAt a ≡ w)
-    pub low : (w : ℕ) → getD seen w 0 ≤ v + 1
-
--- ---- the whole graph
-
--- When it is node v's turn: no node before it has two edges with the same far end, and no stamp is above v.
-pub record Before (ends : List ℕ) (v : ℕ) (seen : List ℕ) : Type 0 where
-  pub distinct : (u : ℕ) → u < v → Distinct ends (edgesAt ends (edgeCount ends) u) u (length (edgesAt ends (edgeCount ends) u))
-  pub old : (w : ℕ) → getD seen w 0 ≤ v
-  pub size : length seen ≡ 512

@@ -37,7 +37,7 @@ marked-none n = record {
   unmarked = λ c h q. absurd (q (getD-replicate n c 0 0 (rw (length-replicate {A = ℕ} n 0) at h)));
 }
 
-pub marked-more : (marks cs : List ℕ) (c : ℕ) → Marked marks cs → Marked (set marks c 1) (cs ++ c ∷ [])
+marked-more : (marks cs : List ℕ) (c : ℕ) → Marked marks cs → Marked (set marks c 1) (cs ++ c ∷ [])
 marked-more marks cs c m = record {
   marked = λ b h p.
       let h′ : b < length marks = rw (length-set marks c 1) at h in
@@ -83,7 +83,7 @@ first-unmarked-next marks c before here b h = elim (dec-eq b c) [ inl e ↦ rw e
 
 -- ---- what the first place without a mark is
 
-pub smallest-from : (fuel : ℕ) (cs : List ℕ) (c r : ℕ) → c ≤ r → r ≤ c + fuel → ((b : ℕ) → c ≤ b → b < r → Mem b cs) → (r < c + fuel → Mem r cs → ⊥) → r ≡ smallestFrom fuel cs c
+smallest-from : (fuel : ℕ) (cs : List ℕ) (c r : ℕ) → c ≤ r → r ≤ c + fuel → ((b : ℕ) → c ≤ b → b < r → Mem b cs) → (r < c + fuel → Mem r cs → ⊥) → r ≡ smallestFrom fuel cs c
 unfolding smallestFrom
 smallest-from zero cs c r low high used free = omega arith
 smallest-from (suc fuel) cs c r low high used free = by-test (elem c cs)
@@ -96,7 +96,7 @@ smallest-from (suc fuel) cs c r low high used free = by-test (elem c cs)
       | inr e ↦ absurd (elem-false c cs t (used c (omega arith) (omega arith)))
     ])
 
-pub first-unmarked-smallest : (marks cs : List ℕ) (c : ℕ) → Marked marks cs → FirstUnmarked marks c → c ≡ smallestFrom (length marks) cs 0
+first-unmarked-smallest : (marks cs : List ℕ) (c : ℕ) → Marked marks cs → FirstUnmarked marks c → c ≡ smallestFrom (length marks) cs 0
 first-unmarked-smallest marks cs c m f =
     smallest-from (length marks) cs 0 c (omega arith) (omega (arith, f .inside)) (λ b h k. m .unmarked b (omega (arith, f .inside)) (f .before b k)) (λ h p. m .marked c (omega arith) p (f .here (omega arith)))
 

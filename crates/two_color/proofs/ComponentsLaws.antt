@@ -18,7 +18,7 @@ use Rattle.two_color.specs.declared.components.Root.{Root}
 use Rattle.two_color.proofs.WalkLaws.{false-xor, xor-false}
 use Rattle.two_color.specs.Sides.{lower, givesWay, lowest, oddSide, oddCycle, sideColor, sides}
 use Rattle.two_color.proofs.SideLaws.{lowest-next, odd-more, cycle-more, length-sides, sides-at}
-use Rattle.two_color.specs.Components.{Forest, Hangs, Holds, Joined, Found, Finds, Climbs, Taken, Joins, Sided}
+use Rattle.two_color.specs.Components.{Forest, Hangs, Holds, Joined, Found, Finds, Taken, Joins, Sided}
 
 -- ---- one node is hung elsewhere
 
@@ -53,6 +53,13 @@ xor-assoc false true true = refl
 xor-assoc false true false = refl
 xor-assoc false false true = refl
 xor-assoc false false false = refl
+
+-- On the way up from v: x is in v's component, and on the other side than v where `odd` says so.
+pub record Climbs (up₀ : List ℕ) (flips₀ : List Bool) (v : ℕ) (up : List ℕ) (flips : List Bool) (x : ℕ) (odd : Bool) : Type 0 where
+  pub forest : Forest up flips
+  pub size : length up ≡ length up₀
+  pub inside : x < length up
+  pub right : (low : ℕ → ℕ) (side : ℕ → Bool) → Holds low side up₀ flips₀ → Holds low side up flips × (low x ≡ low v) × (side v ≡ xor odd (side x))
 
 pub climb-none : (up : List ℕ) (flips : List Bool) (v : ℕ) → Forest up flips → v < length up → Climbs up flips v up flips v false
 climb-none up flips v forest h = record { forest = forest; size = refl; inside = h; right = λ low side holds. (holds, refl, sym (false-xor (side v))) }

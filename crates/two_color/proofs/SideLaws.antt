@@ -229,18 +229,18 @@ lowest-root ends (suc k) v =
     (λ e. rw (lowest-gives ends k v e) (root-more ends k lo old (gives-lower (lowFirst ends k) (lowSecond ends k))))
     (λ e. rw (lowest-stays ends k v e) (root-more ends k (lowest ends k v) (lowest-root ends k v) e))
 
-pub odd-side-lowest : (ends : List ℕ) (k v : ℕ) → oddSide ends k (lowest ends k v) ≡ false
+odd-side-lowest : (ends : List ℕ) (k v : ℕ) → oddSide ends k (lowest ends k v) ≡ false
 odd-side-lowest ends k v = lowest-root ends k v .1
 
 -- The ends of an edge are in one component, and so are those of a walk.
-pub lowest-ends : (ends : List ℕ) (k j : ℕ) → j < k → lowest ends k (firstEnd ends j) ≡ lowest ends k (secondEnd ends j)
+lowest-ends : (ends : List ℕ) (k j : ℕ) → j < k → lowest ends k (firstEnd ends j) ≡ lowest ends k (secondEnd ends j)
 lowest-ends ends zero j h = absurd (not-suc-le-zero h)
 lowest-ends ends (suc k) j h = elim (dec-eq j k) [
   | inl p ↦ rw p (met-first ends k ∙ sym (met-second ends k))
   | inr n ↦ lowest-more ends k (firstEnd ends j) (secondEnd ends j) (lowest-ends ends k j (omega arith))
 ]
 
-pub lowest-far : (ends : List ℕ) (m j v : ℕ) → j < m → At ends j v → lowest ends m (farEnd ends j v) ≡ lowest ends m v
+lowest-far : (ends : List ℕ) (m j v : ℕ) → j < m → At ends j v → lowest ends m (farEnd ends j v) ≡ lowest ends m v
 lowest-far ends m j v h (inl p) = rw (far-first ends j v p, ← p) (sym (lowest-ends ends m j h))
 lowest-far ends m j v h (inr p) = rw (far-second ends j v p, ← p) (lowest-ends ends m j h)
 
@@ -256,7 +256,7 @@ lowest-walk ends (suc k) v = walk-more ends k (lowest-walk ends k) v
 
 -- ---- sides and closed walks of odd length
 
-pub sides-differ : (ends : List ℕ) (k : ℕ) → oddCycle ends k ≡ false → (j : ℕ) → j < k → oddSide ends k (firstEnd ends j) ≡ not (oddSide ends k (secondEnd ends j))
+sides-differ : (ends : List ℕ) (k : ℕ) → oddCycle ends k ≡ false → (j : ℕ) → j < k → oddSide ends k (firstEnd ends j) ≡ not (oddSide ends k (secondEnd ends j))
 sides-differ ends zero e j h = absurd (not-suc-le-zero h)
 sides-differ ends (suc k) e j h =
     let o = or-false (oddCycle ends k) (eqb (lowFirst ends k) (lowSecond ends k) && same ends k) (sym (cycle-more ends k) ∙ e) in
@@ -286,7 +286,7 @@ module _ (ends : List ℕ) (m : ℕ) (f : ℕ → Bool) (proper : (j : ℕ) → 
   proper-walk {u} stay = sym (false-xor (f u))
   proper-walk {u} (along k h p r) = proper-walk r ∙ rw (proper-far k u h p) (simp (not-xor, xor-not, Bool·not-not))
 
-  pub proper-no-odd : OddClosedWalk ends m → ⊥
+  proper-no-odd : OddClosedWalk ends m → ⊥
   proper-no-odd c = not-fixed (f (c .node)) (proper-walk (c .walk) ∙ ap (λ (b : Bool). xor b (f (c .node))) (c .odd))
 
 pub walk-odd-cycle : (ends : List ℕ) (m : ℕ) → OddClosedWalk ends m → oddCycle ends m ≡ true
@@ -299,7 +299,7 @@ unfolding sideColor
 side-color-bound ends m v = by-test (oddSide ends m v) (λ t. simp t (omega arith)) (λ t. simp t (omega arith))
 
 -- "The lowest node of each component gets 1"
-pub side-color-lowest : (ends : List ℕ) (m v : ℕ) → sideColor ends m (lowest ends m v) ≡ 1
+side-color-lowest : (ends : List ℕ) (m v : ℕ) → sideColor ends m (lowest ends m v) ≡ 1
 unfolding sideColor
 side-color-lowest ends m v = simp (odd-side-lowest ends m v)
 

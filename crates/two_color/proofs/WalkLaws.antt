@@ -6,7 +6,7 @@ use native.Mathlib.Nat.{zero-add, suc-add}
 use mathlib.Core.Logic.{inl}
 use mathlib.Core.List.{List}
 use native.Mathlib.Omega.{arith}
-use Rattle.two_color.specs.Walk.{isOdd, Walk, stay, along, OddClosedWalk}
+use Rattle.two_color.specs.Walk.{isOdd, Walk, stay, along}
 use Rattle.graph.specs.Edges.{firstEnd, secondEnd, farEnd, At}
 use Rattle.graph.proofs.EdgeLaws.{far-first, far-at, far-far}
 
@@ -36,7 +36,7 @@ xor-not true false = refl
 xor-not false true = refl
 xor-not false false = refl
 
-pub odd-add : (a b : ℕ) → isOdd (a + b) ≡ xor (isOdd a) (isOdd b)
+odd-add : (a b : ℕ) → isOdd (a + b) ≡ xor (isOdd a) (isOdd b)
 unfolding isOdd
 odd-add zero b = rw (zero-add, false-xor)
 odd-add (suc a) b = rw (suc-add, odd-add a b, not-xor)
@@ -48,7 +48,7 @@ WalkOf ends m u v odd = (l : ℕ) × Walk ends m u v l × (isOdd l ≡ odd)
 module _ {ends : List ℕ} {m : ℕ} where
   -- ---- walks put together, turned round, among more edges
 
-  pub walk-append : {u v w a b : ℕ} → Walk ends m u v a → Walk ends m v w b → Walk ends m u w (a + b)
+  walk-append : {u v w a b : ℕ} → Walk ends m u v a → Walk ends m v w b → Walk ends m u w (a + b)
   walk-append stay q = rw zero-add q
   walk-append (along k h p r) q = rw suc-add (along k h p (walk-append r q))
 
@@ -56,7 +56,7 @@ module _ {ends : List ℕ} {m : ℕ} where
   walk-last k h p stay = along k h p stay
   walk-last k h p (along j g q r) = along j g q (walk-last k h p r)
 
-  pub walk-reverse : {u v l : ℕ} → Walk ends m u v l → Walk ends m v u l
+  walk-reverse : {u v l : ℕ} → Walk ends m u v l → Walk ends m v u l
   walk-reverse stay = stay
   walk-reverse {u} (along k h p r) = rw (far-far ends k u p) at (walk-last k h (far-at ends k u p) (walk-reverse r))
 
@@ -66,7 +66,7 @@ module _ {ends : List ℕ} {m : ℕ} where
 
   -- ---- one edge
 
-  pub walk-far : (k v : ℕ) → k < m → At ends k v → Walk ends m v (farEnd ends k v) 1
+  walk-far : (k v : ℕ) → k < m → At ends k v → Walk ends m v (farEnd ends k v) 1
   walk-far k v h p = along k h p stay
 
   pub walk-first : (k : ℕ) → k < m → Walk ends m (firstEnd ends k) (secondEnd ends k) 1
@@ -74,11 +74,6 @@ module _ {ends : List ℕ} {m : ℕ} where
 
   pub walk-second : (k : ℕ) → k < m → Walk ends m (secondEnd ends k) (firstEnd ends k) 1
   walk-second k h = walk-reverse (walk-first k h)
-
-  -- "a loop is one"
-  pub loop-walk : (k : ℕ) → k < m → firstEnd ends k ≡ secondEnd ends k → OddClosedWalk ends m
-  unfolding isOdd
-  loop-walk k h p = record { node = secondEnd ends k; steps = 1; walk = rw p at (walk-first k h); odd = refl }
 
   -- ---- the same, by whether the length is odd
 

@@ -42,13 +42,6 @@ pub record Finds (up : List ℕ) (flips : List Bool) (v : ℕ) (r : Root) (up′
   pub inside : r .node .0 < length up′
   pub right : (low : ℕ → ℕ) (odd : ℕ → Bool) → Holds low odd up flips → Found low odd v r × Holds low odd up′ flips′
 
--- On the way up from v: x is in v's component, and on the other side than v where `odd` says so.
-pub record Climbs (up₀ : List ℕ) (flips₀ : List Bool) (v : ℕ) (up : List ℕ) (flips : List Bool) (x : ℕ) (odd : Bool) : Type 0 where
-  pub forest : Forest up flips
-  pub size : length up ≡ length up₀
-  pub inside : x < length up
-  pub right : (low : ℕ → ℕ) (side : ℕ → Bool) → Holds low side up₀ flips₀ → Holds low side up flips × (low x ≡ low v) × (side v ≡ xor odd (side x))
-
 -- ---- one edge more
 
 -- The first k edges are taken in, or one of them is inside one side.

@@ -80,7 +80,7 @@ swap-cases Q c d x left right other = go (dec-eq x c) (dec-eq x d)
     go (inr p) (inl q) = rw (q, swap-right c d) right
     go (inr p) (inr q) = rw (swap-other c d x p q) (other p q)
 
-pub swap-swap : (c d x : ℕ) → swap c d (swap c d x) ≡ x
+swap-swap : (c d x : ℕ) → swap c d (swap c d x) ≡ x
 swap-swap c d x = swap-cases (λ y z. swap c d z ≡ y) c d x (swap-right c d) (swap-left c d) (swap-other c d x)
 
 swap-injective : (c d x y : ℕ) → swap c d x ≡ swap c d y → x ≡ y

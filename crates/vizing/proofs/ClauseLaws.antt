@@ -29,7 +29,7 @@ use Rattle.vizing.specs.WrongCalls.{Falls, WrongCallsFall, refusesAll, a
 
 -- ---- both are admitted
 
-pub triangle-admitted : Admitted 3 triangle
+triangle-admitted : Admitted 3 triangle
 unfolding misraGriesChecks firstRefusal graphChecks allBelow hasLoop hasDoubleEdge any isLoop sameEnds firstEnd secondEnd
 triangle-admitted = passed-admitted 3 triangle (replicate 3 noColor) refl .0
 
@@ -37,11 +37,11 @@ pub p13-admitted : Admitted 4 listP13
 unfolding misraGriesChecks firstRefusal graphChecks allBelow hasLoop hasDoubleEdge any isLoop sameEnds firstEnd secondEnd
 p13-admitted = passed-admitted 4 listP13 (replicate 4 noColor) refl .0
 
-pub triangle-max-degree : maxDegree triangle 3 3 ≡ 2
+triangle-max-degree : maxDegree triangle 3 3 ≡ 2
 unfolding maxDegree degree edgesAt firstEdges secondEdges secondAt isLoop firstEnd secondEnd
 triangle-max-degree = refl
 
-pub p13-max-degree : maxDegree listP13 4 4 ≡ 3
+p13-max-degree : maxDegree listP13 4 4 ≡ 3
 unfolding maxDegree degree edgesAt firstEdges secondEdges secondAt isLoop firstEnd secondEnd
 p13-max-degree = refl
 
@@ -59,11 +59,11 @@ runs = (refl, refl, refl, refl)
 -- ---- D + 1 colours are needed
 
 -- Colour 2 is given, and it is D.
-pub triangle-colors : misraGries 3 triangle (replicate 3 noColor) .colors ≡ 0 ∷ 1 ∷ 2 ∷ []
+triangle-colors : misraGries 3 triangle (replicate 3 noColor) .colors ≡ 0 ∷ 1 ∷ 2 ∷ []
 triangle-colors = misra-gries-colors 3 triangle (replicate 3 noColor) triangle-admitted refl ∙ runs .0
 
 -- At node 1 no colour below D is left over.
-pub triangle-used : (c : ℕ) → c < 2 → (k : ℕ) × Incident triangle 3 k 1 × (colorOf (misraGries 3 triangle (replicate 3 noColor) .colors) k ≡ c)
+triangle-used : (c : ℕ) → c < 2 → (k : ℕ) × Incident triangle 3 k 1 × (colorOf (misraGries 3 triangle (replicate 3 noColor) .colors) k ≡ c)
 unfolding colorOf firstEnd secondEnd
 triangle-used zero h = rw triangle-colors (0, (omega arith, inr refl), refl)
 triangle-used (suc zero) h = rw triangle-colors (1, (omega arith, inl refl), refl)
@@ -72,7 +72,7 @@ triangle-used (suc (suc c)) h = let z : ⊥ = omega arith in absurd z
 -- ---- a later edge changes colours given before
 
 -- The first three edges of P13 alone get 0,1,2, and the whole run ends with 2,1,0 for them.
-pub p13-first-three : misraGries 4 (take 6 listP13) (replicate 3 noColor) .colors ≡ 0 ∷ 1 ∷ 2 ∷ []
+p13-first-three : misraGries 4 (take 6 listP13) (replicate 3 noColor) .colors ≡ 0 ∷ 1 ∷ 2 ∷ []
 p13-first-three = misra-gries-first 4 listP13 p13-admitted 3 (omega arith) .same (replicate 3 noColor) refl ∙ runs .2
 
 pub p13-colors : misraGries 4 listP13 (replicate 4 noColor) .colors ≡ 2 ∷ 1 ∷ 0 ∷ 2 ∷ []
@@ -110,7 +110,7 @@ unfolding held
 held-size n ends k = held-length ends (edgeCount ends) n k
 
 -- And one that meets demand 3 has its part of the clause on every list.
-pub demand3-clause : (call : Call) → Demand3 call held → OnEachList call
+demand3-clause : (call : Call) → Demand3 call held → OnEachList call
 demand3-clause call d n ends lent a l = record {
   accepts = d n ends lent a l .accepts;
   accurate = d n ends lent a l .accurate;
@@ -124,7 +124,7 @@ demand3-clause call d n ends lent a l = record {
 }
 
 -- Nothing but an admitted list with a place for each edge is accepted.
-pub accepted-admitted : (n : ℕ) (ends lent : List ℕ) (days : ℕ) → misraGries n ends lent .report ≡ accepted days → Admitted n ends × (length lent ≡ edgeCount ends)
+accepted-admitted : (n : ℕ) (ends lent : List ℕ) (days : ℕ) → misraGries n ends lent .report ≡ accepted days → Admitted n ends × (length lent ≡ edgeCount ends)
 unfolding misraGries colored
 accepted-admitted n ends lent days e = go (firstRefusal (misraGriesChecks n ends lent)) refl
   where
@@ -141,10 +141,10 @@ clause-is-claim = record { enough = clause-demand3; definition = misra-gries-cla
 -- ---- Four wrong calls: each contradicts the contract's own clause on one list, at the part of it that is named
 
 -- Such a call does not have the clause, and does not meet demand 3.
-pub falls-clause : (call : Call) → Falls call → MeetsClause call → ⊥
+falls-clause : (call : Call) → Falls call → MeetsClause call → ⊥
 falls-clause call f c = f .falls (c (f .n) (f .ends) (f .lent) .demand3 (f .admitted) (f .size))
 
-pub falls-demand3 : (call : Call) → Falls call → Demand3 call held → ⊥
+falls-demand3 : (call : Call) → Falls call → Demand3 call held → ⊥
 falls-demand3 call f d = f .falls (demand3-clause call d (f .n) (f .ends) (f .lent) (f .admitted) (f .size))
 
 -- The triangle, and P13's list.
@@ -186,7 +186,7 @@ unfolding fillsIn rising
 filled-p13 = rw (runs .1)
 
 -- On P13's list it keeps to the accuracy rule, so only the first edges tell.
-pub fills-in-accurate : Accurate 4 listP13 filledP13
+fills-in-accurate : Accurate 4 listP13 filledP13
 unfolding colorOf
 fills-in-accurate = record {
   range = λ k h. rw (p13-max-degree, own k h) (omega arith);

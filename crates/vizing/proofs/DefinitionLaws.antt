@@ -55,7 +55,7 @@ is-free-false l ks c e = elim (some-or-none (edgeOfColor l c ks)) [
   | inr (k, p) ↦ let r = edge-of-color-some l c ks k p in (k, r .0, r .1)
 ]
 
-pub none-has-free : (l ks : List ℕ) (c : ℕ) → NoneHas l ks c → isFree l ks c ≡ true
+none-has-free : (l ks : List ℕ) (c : ℕ) → NoneHas l ks c → isFree l ks c ≡ true
 none-has-free l ks c n = by-test (isFree l ks c) (λ t. t) (λ t. let r = is-free-false l ks c t in absurd (n (r .0) (r .1) (r .2)))
 
 -- ---- joining the fan
@@ -64,20 +64,20 @@ none-has-free l ks c n = by-test (isFree l ks c) (λ t. t) (λ t. let r = is-fre
 abbrev pub Joins : List ℕ → List ℕ → List ℕ → ℕ → Type 0
 Joins l ks fan k = (Mem k fan → ⊥) × (colorOf l k ≢ noColor) × NoneHas l ks (colorOf l k)
 
-pub joins-true : (l ks fan : List ℕ) (k : ℕ) → joins l ks fan k ≡ true → Joins l ks fan k
+joins-true : (l ks fan : List ℕ) (k : ℕ) → joins l ks fan k ≡ true → Joins l ks fan k
 unfolding joins
 joins-true l ks fan k e =
     let a = and-true (not (elem k fan)) (isColored l k && isFree l ks (colorOf l k)) e in
     let b = and-true (isColored l k) (isFree l ks (colorOf l k)) (a .1) in
     (elem-false k fan (not-true (elem k fan) (a .0)), is-colored-true l k (b .0), is-free-true l ks (colorOf l k) (b .1))
 
-pub true-joins : (l ks fan : List ℕ) (k : ℕ) → Joins l ks fan k → joins l ks fan k ≡ true
+true-joins : (l ks fan : List ℕ) (k : ℕ) → Joins l ks fan k → joins l ks fan k ≡ true
 unfolding joins
 true-joins l ks fan k (out, colored, none-has) =
     true-and (not (elem k fan)) (isColored l k && isFree l ks (colorOf l k)) (ap not (not-mem-elem k fan out))
     (true-and (isColored l k) (isFree l ks (colorOf l k)) (colored-true l k colored) (none-has-free l ks (colorOf l k) none-has))
 
-pub joins-false : (l ks fan : List ℕ) (k : ℕ) → joins l ks fan k ≡ false → Joins l ks fan k → ⊥
+joins-false : (l ks fan : List ℕ) (k : ℕ) → joins l ks fan k ≡ false → Joins l ks fan k → ⊥
 joins-false l ks fan k e j = true≢false (sym (true-joins l ks fan k j) ∙ e)
 
 pub false-joins : (l ks fan : List ℕ) (k : ℕ) → (Joins l ks fan k → ⊥) → joins l ks fan k ≡ false

@@ -17,17 +17,17 @@ use Rattle.lists.specs.Search.{firstThat}
 use Rattle.lists.proofs.SearchLaws.{first-that-same}
 use Rattle.graph.specs.Edges.{firstEnd, secondEnd, farEnd, edgesAt, edgeCount, isLoop, secondAt, firstEdges, secondEdges}
 use Rattle.graph.proofs.EdgeLaws.{edges-at-nodup}
-use Rattle.graph.specs.Color.{noColor, smallestFree}
+use Rattle.graph.specs.Color.{noColor}
 use Rattle.graph.specs.Colored.{colorOf, isColored, coloredAmong, smallestFreeAt}
 use Rattle.vizing.specs.MisraGries.{edgeOfColor, isFree, store, firstJoining, path, swap, exchange, step, heldAfter, isNone, joins, Held, held}
 use Rattle.vizing.proofs.StepForm.{growFan, lastFarEnd, placesTo, rotatePlaces, stepParts, step-form}
-use Rattle.graph.proofs.ColorLaws.{colored-inside, color-replicate, colored-edge, smallest-free-colored, is-colored-true, is-colored-false, colored-edges-append, colored-edges-keep}
+use Rattle.graph.proofs.ColorLaws.{colored-inside, color-replicate, colored-edge, smallest-free-colored, is-colored-true, is-colored-false, colored-edges-append, colored-edges-keep, smallest-free-same}
 use Rattle.vizing.proofs.DefinitionLaws.{some-or-none, edge-of-color-some, first-joining-some, length-store, color-store-other, false-joins, step-list, step-same}
 
 -- ---- the step of an edge changes colours of that edge and of coloured edges only, so the edges after it stay without a colour
 
 -- The edges from k on have no colour.
-abbrev pub UncoloredFrom : List ℕ → ℕ → Type 0
+abbrev UncoloredFrom : List ℕ → ℕ → Type 0
 UncoloredFrom l k = (j : ℕ) → k ≤ j → colorOf l j ≡ noColor
 
 pub colored-before : (l : List ℕ) (k : ℕ) → UncoloredFrom l k → (j : ℕ) → colorOf l j ≢ noColor → j < k
@@ -53,7 +53,7 @@ module _ (ends : List ℕ) (m : ℕ) (l : List ℕ) where
 
   -- ---- the fan and the path have coloured edges only
 
-  pub fan-colored : (fuel u : ℕ) (fan : List ℕ) (x k : ℕ) → Mem k (growFan ends m fuel l u fan x) → colorOf l k ≢ noColor
+  fan-colored : (fuel u : ℕ) (fan : List ℕ) (x k : ℕ) → Mem k (growFan ends m fuel l u fan x) → colorOf l k ≢ noColor
   unfolding growFan
   fan-colored (suc fuel) u fan x k p = elim (some-or-none (firstJoining l (edgesAt ends m x) fan (edgesAt ends m u))) [
     | inl e ↦ absurd (rw (e, growFan) at p)
@@ -63,7 +63,7 @@ module _ (ends : List ℕ) (m : ℕ) (l : List ℕ) where
     ]
   ]
 
-  pub path-colored : (fuel v p q : ℕ) → p ≢ noColor → q ≢ noColor → (k : ℕ) → Mem k (path ends m fuel l v p q) → colorOf l k ≢ noColor
+  path-colored : (fuel v p q : ℕ) → p ≢ noColor → q ≢ noColor → (k : ℕ) → Mem k (path ends m fuel l v p q) → colorOf l k ≢ noColor
   unfolding path
   path-colored (suc fuel) v p q np nq k member = elim (some-or-none (edgeOfColor l p (edgesAt ends m v))) [
     | inl e ↦ absurd (rw (e, path) at member)
@@ -83,11 +83,11 @@ module _ (ends : List ℕ) (m : ℕ) (l : List ℕ) where
 -- ---- the step
 
 -- Storing at places before k leaves the edges from k on without a colour.
-pub store-uncolored : (l ks cs : List ℕ) (k : ℕ) → UncoloredFrom l k → ((j : ℕ) → Mem j ks → j < k) → UncoloredFrom (store l ks cs) k
+store-uncolored : (l ks cs : List ℕ) (k : ℕ) → UncoloredFrom l k → ((j : ℕ) → Mem j ks → j < k) → UncoloredFrom (store l ks cs) k
 store-uncolored l ks cs k rest before j h = color-store-other l ks cs j (λ p. let b = before j p in omega arith) ∙ rest j h
 
 module _ (ends : List ℕ) (m n : ℕ) where
-  pub step-length : (l : List ℕ) (k : ℕ) → length (step ends m n l k) ≡ length l
+  step-length : (l : List ℕ) (k : ℕ) → length (step ends m n l k) ≡ length l
   unfolding stepParts rotatePlaces exchange
   step-length l k =
       let f = stepParts ends m n l k in
@@ -96,7 +96,7 @@ module _ (ends : List ℕ) (m n : ℕ) where
       ∙ length-store l (f .path) (map (λ (j : ℕ). swap (f .c) (f .d) (colorOf l j)) (f .path))
 
   module _ (l : List ℕ) (few : length l < noColor) (k : ℕ) where
-    pub exchanged-uncolored : (from : ℕ) → UncoloredFrom l from → UncoloredFrom (stepParts ends m n l k .exchanged) from
+    exchanged-uncolored : (from : ℕ) → UncoloredFrom l from → UncoloredFrom (stepParts ends m n l k .exchanged) from
     unfolding stepParts exchange
     exchanged-uncolored from rest =
         let f = stepParts ends m n l k in
@@ -107,11 +107,11 @@ module _ (ends : List ℕ) (m n : ℕ) where
         (λ j p. colored-before l from rest j (path-colored ends m l n u (f .d) (f .c) nd nc j p))
 
     -- Where no edge from `from` on is coloured, the edges that join the fan come before it.
-    pub fan-before : (from : ℕ) → UncoloredFrom l from → (j : ℕ) → Mem j (stepParts ends m n l k .fan) → j < from
+    fan-before : (from : ℕ) → UncoloredFrom l from → (j : ℕ) → Mem j (stepParts ends m n l k .fan) → j < from
     unfolding stepParts
     fan-before from rest j p = colored-before l from rest j (fan-colored ends m l 4096 (firstEnd ends k) (k ∷ []) (secondEnd ends k) j p)
 
-    pub step-uncolored : UncoloredFrom l k → UncoloredFrom (step ends m n l k) (suc k)
+    step-uncolored : UncoloredFrom l k → UncoloredFrom (step ends m n l k) (suc k)
     unfolding rotatePlaces stepParts
     step-uncolored rest =
         let f = stepParts ends m n l k in
@@ -174,10 +174,6 @@ module _ (l js ks : List ℕ) (same : coloredAmong l js ≡ coloredAmong l ks) w
   is-free-same : (c : ℕ) → c ≢ noColor → isFree l js c ≡ isFree l ks c
   unfolding isFree
   is-free-same c nc = ap isNone (edge-of-color-same c nc)
-
-  smallest-free-same : smallestFreeAt l js ≡ smallestFreeAt l ks
-  unfolding smallestFreeAt
-  smallest-free-same = ap (λ (is : List ℕ). smallestFree (map (colorOf l) is)) same
 
 first-joining-same : (l js ks fan ps qs : List ℕ) → coloredAmong l js ≡ coloredAmong l ks → coloredAmong l ps ≡ coloredAmong l qs → firstJoining l js fan ps ≡ firstJoining l ks fan qs
 first-joining-same l js ks fan ps qs d e = first-joining-colored l js fan ps ∙ rw (d, e) (sym (first-joining-colored l ks fan qs))

@@ -63,15 +63,15 @@ colors-set l k c ks n = map-agree (colorOf (set l k c)) (colorOf l) ks (λ i p. 
 
 -- ---- the exchange
 
-pub length-exchange : (l : List ℕ) (c d : ℕ) (ks : List ℕ) → length (exchange l c d ks) ≡ length l
+length-exchange : (l : List ℕ) (c d : ℕ) (ks : List ℕ) → length (exchange l c d ks) ≡ length l
 unfolding exchange
 length-exchange l c d ks = length-store l ks (map (λ (k : ℕ). swap c d (colorOf l k)) ks)
 
-pub exchange-on : (l : List ℕ) (c d : ℕ) (ks : List ℕ) (i : ℕ) → i < length l → Mem i ks → colorOf (exchange l c d ks) i ≡ swap c d (colorOf l i)
+exchange-on : (l : List ℕ) (c d : ℕ) (ks : List ℕ) (i : ℕ) → i < length l → Mem i ks → colorOf (exchange l c d ks) i ≡ swap c d (colorOf l i)
 unfolding exchange
 exchange-on l c d ks i h p = color-store-map (λ (k : ℕ). swap c d (colorOf l k)) l ks i p h
 
-pub exchange-off : (l : List ℕ) (c d : ℕ) (ks : List ℕ) (i : ℕ) → (Mem i ks → ⊥) → colorOf (exchange l c d ks) i ≡ colorOf l i
+exchange-off : (l : List ℕ) (c d : ℕ) (ks : List ℕ) (i : ℕ) → (Mem i ks → ⊥) → colorOf (exchange l c d ks) i ≡ colorOf l i
 unfolding exchange
 exchange-off l c d ks i n = color-store-other l ks (map (λ (k : ℕ). swap c d (colorOf l k)) ks) i n
 
@@ -81,16 +81,16 @@ exchange-none l c d = refl
 
 -- ---- the rotation
 
-pub length-rotate : (l : List ℕ) (k : ℕ) (ks : List ℕ) (d : ℕ) → length (rotatePlaces l k ks d) ≡ length l
+length-rotate : (l : List ℕ) (k : ℕ) (ks : List ℕ) (d : ℕ) → length (rotatePlaces l k ks d) ≡ length l
 unfolding rotatePlaces
 length-rotate l k ks d = length-store l (k ∷ ks) (map (colorOf l) ks ++ (d ∷ []))
 
-pub rotate-last : (l : List ℕ) (k d : ℕ) → rotatePlaces l k [] d ≡ set l k d
+rotate-last : (l : List ℕ) (k d : ℕ) → rotatePlaces l k [] d ≡ set l k d
 unfolding rotatePlaces store
 rotate-last l k d = refl
 
 -- The first place, then the others: nothing of it is read again.
-pub rotate-next : (l : List ℕ) (k j : ℕ) (ks : List ℕ) (d : ℕ) → (Mem k ks → ⊥) → rotatePlaces l k (j ∷ ks) d ≡ rotatePlaces (set l k (colorOf l j)) j ks d
+rotate-next : (l : List ℕ) (k j : ℕ) (ks : List ℕ) (d : ℕ) → (Mem k ks → ⊥) → rotatePlaces l k (j ∷ ks) d ≡ rotatePlaces (set l k (colorOf l j)) j ks d
 unfolding rotatePlaces store
 rotate-next l k j ks d n = rw (colors-set l k (colorOf l j) ks n)
 
@@ -100,7 +100,7 @@ rotate-first l k c [] d n = rw (rotate-last (set l k c) k d, rotate-last l k d) 
 rotate-first l k c (j ∷ ks) d n =
     rw (rotate-next (set l k c) k j ks d (λ p. n (inr p)), rotate-next l k j ks d (λ p. n (inr p)), color-set-other l k c j (λ z. n (inl (sym z))), set-set l k c (colorOf l j))
 
-pub rotate-rotated : (l : List ℕ) (k : ℕ) (ks : List ℕ) (d : ℕ) → Nodup (k ∷ ks) → ((i : ℕ) → Mem i (k ∷ ks) → i < length l)
+rotate-rotated : (l : List ℕ) (k : ℕ) (ks : List ℕ) (d : ℕ) → Nodup (k ∷ ks) → ((i : ℕ) → Mem i (k ∷ ks) → i < length l)
     → Rotated (colorOf (rotatePlaces l k ks d)) d (colorOf l) k ks
 rotate-rotated l k [] d nodup inside = rw (rotate-last l k d) (Rotated.last (color-set-same l k d (inside k (inl refl))) (λ i n. color-set-other l k d i n))
 rotate-rotated l k (j ∷ ks) d (out, nodup) inside =

@@ -69,7 +69,7 @@ admitted-places n ends a i h =
       | inr p ↦ let e : i ≡ 2 * (i / 2) + 1 = omega arith in rw e (r .1)
     ]
 
-pub admitted-passed : (n : ℕ) (ends : List ℕ) → Admitted n ends → Passed n ends
+admitted-passed : (n : ℕ) (ends : List ℕ) → Admitted n ends → Passed n ends
 admitted-passed n ends a = record { nodes = a .nodes; even = a .even; edges = a .edges; inside = admitted-places n ends a }
 
 pub checks-pass : (n : ℕ) (ends colors : List ℕ) → Admitted n ends → length colors ≡ edgeCount ends → firstRefusal (misraGriesChecks n ends colors) ≡ none
@@ -123,7 +123,7 @@ admitted-first n ends a k h = record {
 
 -- ---- the call on an admitted list
 
-pub misra-gries-accepts : (n : ℕ) (ends colors : List ℕ) → Admitted n ends → length colors ≡ edgeCount ends → Accepted (misraGries n ends colors .report)
+misra-gries-accepts : (n : ℕ) (ends colors : List ℕ) → Admitted n ends → length colors ≡ edgeCount ends → Accepted (misraGries n ends colors .report)
 unfolding misraGries colored
 misra-gries-accepts n ends colors a e =
     let m = edgeCount ends in

@@ -1,4 +1,4 @@
--- The parameters that `step_kept` passes on to `step_tallied`, and that to `step`: all but the tally, in one order.
+-- The parameters that `step_by_value` passes on to `step_tallied`, and that to `step`: all but the tally, in one order.
 --     Rest κs          their types, at their lifetimes
 --     spelled, told    their machine values, as functions of their values; and that they can be no others
 --     fits             what a place asks of a list's machine value, given the list's length

@@ -7,8 +7,7 @@ use borrow.Author.Needs.{needs}
 use native.Mathlib.Omega.{arith}
 use Rattle.graph.specs.Stretch.{stretch}
 use Rattle.edge_walk.proofs.WalkLaws.{step-end, step-far}
-use Rattle.simple_graph.specs.DoubleEdges.{Seen}
-use Rattle.simple_graph.proofs.DoubleEdgesLaws.{seen-none, seen-room, seen-more, seen-twice, seen-all}
+use Rattle.simple_graph.proofs.DoubleEdgesLaws.{Seen, seen-none, seen-room, seen-more, seen-twice, seen-all}
 use Rattle.simple_graph.proofs.node_has_double.Statement.{statement}
 use Rattle.simple_graph.proofs.node_has_double.Tie as tie
 

@@ -2,8 +2,7 @@
 -- The measure: what is left to go over, n - v; each turn goes on by one.
 use Prim.Native.Nat.{_≤_, _-_}
 use borrow.Author.Needs.{needs}
-use Rattle.simple_graph.specs.DoubleEdges.{Before}
-use Rattle.simple_graph.proofs.DoubleEdgesLaws.{no-node, node-ready, double-found, node-more, no-double}
+use Rattle.simple_graph.proofs.DoubleEdgesLaws.{Before, no-node, node-ready, double-found, node-more, no-double}
 use Rattle.simple_graph.proofs.table_has_double.Statement.{statement}
 use Rattle.simple_graph.proofs.table_has_double.Tie as tie
 

@@ -17,12 +17,12 @@ Inv-loop n ends starts entries work₀ table₀ marks₀ m tally₀ k₀ work ta
 abbrev μ-loop : tie.MeasureT-loop
 μ-loop n ends starts entries work₀ table₀ marks₀ m tally₀ k₀ work table marks tally k = m - k
 
-step-kept-requires : tie.Need-step-kept-requires Inv-loop μ-loop
-step-kept-requires c κs = let i = c .before .before .before .before .loop .inv .0 in (running-ready _ _ _ _ _ _ _ _ _ i (c .before .before .before .loop-test .taken), omega (arith, running-edges _ _ _ _ _ _ _ _ _ i, i .bound, i .admitted .edges))
+step-by-value-requires : tie.Need-step-by-value-requires Inv-loop μ-loop
+step-by-value-requires c κs = let i = c .before .before .before .before .loop .inv .0 in (running-ready _ _ _ _ _ _ _ _ _ i (c .before .before .before .loop-test .taken), omega (arith, running-edges _ _ _ _ _ _ _ _ _ i, i .bound, i .admitted .edges))
 
 loop-again : tie.Need-loop-again Inv-loop μ-loop
-loop-again c = let at-step-kept = c .before .before .before .before .before .before in let at-test = at-step-kept .before .before .before .before in let at-loop = at-test .before in
-    (running-more _ _ _ _ _ _ _ _ _ (at-loop .loop .inv .0) _ _ _ _ (at-test .loop-test .taken) (at-step-kept .step-kept .ensures), at-step-kept .step-kept .kept .1 .1 .1 .1 .1 .0 ∙ at-loop .loop .inv .1, at-step-kept .step-kept .kept .1 .1 .1 .1 .1 .1 .0 ∙ at-loop .loop .inv .2, at-step-kept .step-kept .kept .1 .1 .1 .1 .1 .1 .1 .0 ∙ at-loop .loop .inv .3)
+loop-again c = let at-step-by-value = c .before .before .before .before .before .before in let at-test = at-step-by-value .before .before .before .before in let at-loop = at-test .before in
+    (running-more _ _ _ _ _ _ _ _ _ (at-loop .loop .inv .0) _ _ _ _ (at-test .loop-test .taken) (at-step-by-value .step-by-value .ensures), at-step-by-value .step-by-value .kept .1 .1 .1 .1 .1 .0 ∙ at-loop .loop .inv .1, at-step-by-value .step-by-value .kept .1 .1 .1 .1 .1 .1 .0 ∙ at-loop .loop .inv .2, at-step-by-value .step-by-value .kept .1 .1 .1 .1 .1 .1 .1 .0 ∙ at-loop .loop .inv .3)
 
 returns : tie.Need-returns Inv-loop μ-loop
 returns c = let at-entry = c .before .before .before .before .before .before .before .before in
@@ -32,7 +32,7 @@ pub run-spec : {M : Type 1} → statement M
 run-spec = tie.close (tie.spec Inv-loop μ-loop
     (λ c. (c .before .before .before .before .before .before .pre, refl, refl, refl))
     (λ c. search needs)
-    step-kept-requires
+    step-by-value-requires
     (λ c. search needs)
     (λ c. search needs)
     loop-again

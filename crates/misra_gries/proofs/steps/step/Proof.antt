@@ -14,12 +14,12 @@ grow-requires c κs = let at-edges-at = c .before .before .before .before .befor
 array-share-prefix-fan : tie.Need-array-share-prefix-fan
 array-share-prefix-fan c = omega (arith, c .before .before .before .before .before .grow .ensures .1 .0, c .before .before .before .before .before .grow .kept .1 .1 .1 .1 .1 .1 .1 .1 .0)
 
-slice-aggregate-turn : tie.Need-slice-aggregate-turn
-slice-aggregate-turn c = let at-grow = c .before .before .before .before .before .before in
+slice-aggregate-exchange-and-rotate : tie.Need-slice-aggregate-exchange-and-rotate
+slice-aggregate-exchange-and-rotate c = let at-grow = c .before .before .before .before .before .before in
     sym (length-take-le _ _ (omega (arith, at-grow .grow .ensures .1 .0, at-grow .grow .kept .1 .1 .1 .1 .1 .1 .1 .1 .0)))
 
-turn-requires : tie.Need-turn-requires
-turn-requires c κs = let at-grow = c .before .before .before .before .before .before in let at-end-at2 = at-grow .before .before .before .before .before .before .before in let at-end-at = at-end-at2 .before in let at-entry = at-end-at .before .before .before .before .before .before .before .before in
+exchange-and-rotate-requires : tie.Need-exchange-and-rotate-requires
+exchange-and-rotate-requires c κs = let at-grow = c .before .before .before .before .before .before in let at-end-at2 = at-grow .before .before .before .before .before .before .before in let at-end-at = at-end-at2 .before in let at-entry = at-end-at .before .before .before .before .before .before .before .before in
     step-turning _ _ _ _ _ _ _ _ (at-entry .pre) _ (at-end-at .end-at .ensures) _ _ (at-end-at2 .end-at2 .ensures) (at-grow .grow .ensures .0) (short-take _ _ _ (at-grow .grow .ensures .1 .0))
 
 same-length-3 : tie.Need-same-length-3
@@ -30,7 +30,7 @@ returns : tie.Need-returns
 returns c =
     let at-turn = c .before .before .before .before in let at-grow = at-turn .before .before .before .before .before .before .before in
     let grown = at-grow .grow in
-    let t = at-turn .turn .ensures in
+    let t = at-turn .exchange-and-rotate .ensures in
     record { list = t .list; tabled = t .tabled; top = t .top; size = grown .kept .1 .1 .1 .0; marked = grown .ensures .1 .1 }
 
 pub step-spec : {M : Type 1} → statement M
@@ -46,9 +46,9 @@ step-spec = tie.close (tie.spec
     (λ c. refl)
     grow-requires
     array-share-prefix-fan
-    slice-aggregate-turn
-    turn-requires
-    (λ c. c .before .before .before .before .turn .kept .1 .1 .0)
-    (λ c. c .before .before .before .before .turn .kept .1 .1 .1 .0)
+    slice-aggregate-exchange-and-rotate
+    exchange-and-rotate-requires
+    (λ c. c .before .before .before .before .exchange-and-rotate .kept .1 .1 .0)
+    (λ c. c .before .before .before .before .exchange-and-rotate .kept .1 .1 .1 .0)
     same-length-3
     returns)

@@ -4,8 +4,7 @@ use mathlib.Core.Path.{_≡_, refl}
 use mathlib.Core.Bool.{xor}
 use native.Mathlib.Omega.{arith}
 use lib.ListN.{length, getD, length-set}
-use Rattle.two_color.specs.Components.{Climbs}
-use Rattle.two_color.proofs.ComponentsLaws.{climb-none, next-inside, above-lower, climb-more, climb-done}
+use Rattle.two_color.proofs.ComponentsLaws.{Climbs, climb-none, next-inside, above-lower, climb-more, climb-done}
 use Rattle.two_color.proofs.components.root_of.Statement.{statement}
 use Rattle.two_color.proofs.components.root_of.Tie as tie
 

@@ -1,10 +1,10 @@
--- `turn` meets its contract: c and d as the table has them, the path exchanged, the fan rotated up to w.
+-- `exchange_and_rotate` meets its contract: c and d as the table has them, the path exchanged, the fan rotated up to w.
 use mathlib.Core.Path.{_∙_}
 use native.Mathlib.Omega.{arith}
 use borrow.Author.Needs.{needs}
 use Rattle.misra_gries.proofs.StepLaws.{turn-fan, turn-exchanging, turn-count, turn-rotating, turned-alone, turned-along}
-use Rattle.misra_gries.proofs.steps.turn.Statement.{statement}
-use Rattle.misra_gries.proofs.steps.turn.Tie as tie
+use Rattle.misra_gries.proofs.steps.exchange_and_rotate.Statement.{statement}
+use Rattle.misra_gries.proofs.steps.exchange_and_rotate.Tie as tie
 
 -- The places before that where w is found, named after what is done there.
 abbrev exchange : tie.After-places-to → tie.After-exchange-path
@@ -40,8 +40,8 @@ returns-2 : tie.Need-returns-2
 returns-2 c = let at-rotate-fan = c .before .before .before .before .before in let at-9 = at-rotate-fan .before .before .before .before in
     let p = at-9 in turned-along _ _ _ _ _ _ _ _ (entry p .pre) _ _ _ (far p .far-end .ensures) (c-free p .smallest-free .ensures) (d-free p .smallest-free2 .ensures) _ _ _ (exchange p .exchange-path .ensures) _ (p .places-to .ensures) _ _ (at-rotate-fan .rotate-fan .ensures) (c .if1 .left)
 
-pub turn-spec : {M : Type 1} → statement M
-turn-spec = tie.close (tie.spec
+pub exchange-and-rotate-spec : {M : Type 1} → statement M
+exchange-and-rotate-spec = tie.close (tie.spec
     (λ c. turn-fan _ _ _ _ _ _ _ _ (c .before .before .before .before .pre)) (λ c. search needs)
     (λ c. omega (arith, turn-fan _ _ _ _ _ _ _ _ (c .before .before .before .before .before .pre)))
     (λ c κs. tt) (λ c κs. tt) (λ c κs. tt)

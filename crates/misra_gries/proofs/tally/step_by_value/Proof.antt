@@ -1,4 +1,4 @@
--- `tally::step_kept` meets its contract: a walk of its MIR, by hand. A local copy of the tally is lent to `step_tallied`, for a lifetime that is made for the call,
+-- `tally::step_by_value` meets its contract: a walk of its MIR, by hand. A local copy of the tally is lent to `step_tallied`, for a lifetime that is made for the call,
 -- and comes back at its last value. The lists go on, at their own lifetimes and for good. The proof reads no clause: it hands the facts on.
 use mathlib.Core.Path.{refl}
 use Prim.Native.Nat.{ℕ}
@@ -46,32 +46,32 @@ use Rattle.misra_gries.proofs.tally.step_tallied as step-tallied
 use Rattle.misra_gries.proofs.tally.step_tallied.Symbol as step-tallied-def
 use Rattle.misra_gries.proofs.tally.step_tallied.Symbol.{name as #step-tallied}
 use Rattle.misra_gries.proofs.tally.step_tallied.Met as step-tallied-thm
-use Rattle.misra_gries.proofs.tally.step_kept.Key.{name as #step-kept}
-use Rattle.misra_gries.proofs.tally.step_kept as step-kept
-use Rattle.misra_gries.proofs.tally.step_kept.Statement as stated
-use Rattle.misra_gries.proofs.tally.step_kept.Code as code
+use Rattle.misra_gries.proofs.tally.step_by_value.Key.{name as #step-by-value}
+use Rattle.misra_gries.proofs.tally.step_by_value as step-by-value
+use Rattle.misra_gries.proofs.tally.step_by_value.Statement as stated
+use Rattle.misra_gries.proofs.tally.step_by_value.Code as code
 
 module _ {M : Type 1} (𝓤 : URA M) (H : Heap 𝓤) (A : Atoms 𝓤) (W : Given 𝓤 H A) (at-mem : Memory → SProp 𝓤) (run : Routine → Fun 𝓤) where
-  abbrev c : Clauses 𝓤 step-kept.ended
-  c = step-kept.clauses 𝓤 H A at-mem run
+  abbrev c : Clauses 𝓤 step-by-value.ended
+  c = step-by-value.clauses 𝓤 H A at-mem run
 
   -- the contracts: this function's, and the one that the proof cites
   abbrev Keeps : Contract 𝓤
-  Keeps = contractOf 𝓤 H A step-kept.ended c
+  Keeps = contractOf 𝓤 H A step-by-value.ended c
 
   abbrev Tallies : Contract 𝓤
   Tallies = contractOf 𝓤 H A step-tallied.ended (step-tallied.clauses 𝓤 H A at-mem run)
 
-  module _ (κs : Lfts 6) (qs : Shares 6) (a : Args step-kept.signature κs) where
+  module _ (κs : Lfts 6) (qs : Shares 6) (a : Args step-by-value.signature κs) where
     abbrev h : Tally
     h = a .0
 
     -- the parameters' machine values, and the lists' tokens
-    abbrev vs : Vals step-kept.signature κs
+    abbrev vs : Vals step-by-value.signature κs
     vs = (T′.lowered h ∷ [], valss (Rest κs) (spelled κs) (a .1))
 
     abbrev Alive : SProp 𝓤
-    Alive = alive 𝓤 H A step-kept.signature κs qs
+    Alive = alive 𝓤 H A step-by-value.signature κs qs
 
     abbrev y : Keeps .Ghost
     y = ((κs, qs, tt, a, vs), tt)
@@ -86,7 +86,7 @@ module _ {M : Type 1} (𝓤 : URA M) (H : Heap 𝓤) (A : Atoms 𝓤) (W : Given
     module _ (C : Calls 𝓤 H) (Λ : Loops 𝓤 H) (fm : FmC 𝓤 H (W .laws) C) (known : Triple 𝓤 (C #step-tallied) Tallies) where
       walk : ((l ν : ℕ) (δ : GName) → ent 𝓤 (emp 𝓤) (step-tallied.clauses 𝓤 H A at-mem run (ν ∷ [], κs) (lent l δ, a .1) .requires tt))
           → Is T.the-row h (T′.lowered h ∷ []) → Are (Rest κs) (Ises (Rest κs)) (a .1) (vs .1)
-          → ent 𝓤 (onEntry 𝓤 H A step-kept.signature κs qs a vs) (WpFn 𝓤 H C Λ code.function (Keeps .args y) (Keeps .post y))
+          → ent 𝓤 (onEntry 𝓤 H A step-by-value.signature κs qs a vs) (WpFn 𝓤 H C Λ code.function (Keeps .args y) (Keeps .post y))
       walk ready is-h are =
           qed W (raw Alive ∷ ‵ (owns (T.the-row ∷ Rest κs) a vs) ∷ []) ∵ move ! (1 ∷ []) $ fsplit ! $
           -- [what the tally owns; what the lists and the edge own; the lists' tokens]
@@ -138,20 +138,20 @@ module _ {M : Type 1} (𝓤 : URA M) (H : Heap 𝓤) (A : Atoms 𝓤) (W : Given
           returns ! (look ! 39 refl) $
           free-all ! 3 (_, (_, (_, (_, (_, (_, (_, (_, (_, (_, (_, (_, (_, (_, (_, (_, (_, (_, (_, tt))))))))))))))))))) refl $
           move ! (1 ∷ []) $ nothing ! $ fjoin ! $ move ! (1 ∷ 2 ∷ []) $
-          by ! (finish 𝓤 H A step-kept.ended c y W (T′.lowered (ws .0)) (ws .0) (tt, ws .1) (factI 𝓤 _ (emp 𝓤) tallied)))))))))))))))))))))))))
+          by ! (finish 𝓤 H A step-by-value.ended c y W (T′.lowered (ws .0)) (ws .0) (tt, ws .1) (factI 𝓤 _ (emp 𝓤) tallied)))))))))))))))))))))))))
 
   meets : (𝓣 : Tables 𝓤 H) → Triple 𝓤 (𝓣 .C #step-tallied) Tallies
-      → Meets 𝓤 H A step-kept.signature (WpFn 𝓤 H (𝓣 .C) (𝓣 .Λ) code.function) (step-kept.spec 𝓤 H A at-mem run)
-  meets 𝓣 known = meets-from 𝓤 H A step-kept.ended c (WpFn 𝓤 H (𝓣 .C) (𝓣 .Λ) code.function)
+      → Meets 𝓤 H A step-by-value.signature (WpFn 𝓤 H (𝓣 .C) (𝓣 .Λ) code.function) (step-by-value.spec 𝓤 H A at-mem run)
+  meets 𝓣 known = meets-from 𝓤 H A step-by-value.ended c (WpFn 𝓤 H (𝓣 .C) (𝓣 .Λ) code.function)
       (λ κs. (LL.vals T.the-type T′.the-laws, spelled κs)) (λ κs. (LL.tells T.the-type T′.the-laws, told κs)) _ (λ κs a g. both-facts 𝓤 (id⊢ 𝓤 _) (id⊢ 𝓤 _))
       (λ κs qs bounds a g asked are. walk κs qs a (𝓣 .C) (𝓣 .Λ) (fmOf 𝓤 H (W .laws) 𝓣) known
       (λ l ν δ. give-both 𝓤 (factI 𝓤 _ (emp 𝓤) (asked .0)) (factI 𝓤 _ (emp 𝓤) (asked .1))) (are .0) (are .1))
 
-pub step-kept-spec : {M : Type 1} → stated.statement M
+pub step-by-value-spec : {M : Type 1} → stated.statement M
 unfolding code.routine tablesOf
-step-kept-spec 𝓤 H 𝓜 𝓖 𝓡 =
-    entered 𝓤 H (tripleOf 𝓤 H (𝓖 .A) step-kept.signature (step-kept.spec 𝓤 H (𝓖 .A) (𝓜 .mem) (𝓡 .run)))
-    (tables 𝓤 H 𝓜 𝓡 code.env .C) (tables 𝓤 H 𝓜 𝓡 code.env .Λ) #step-kept code.function (code.unfolded 𝓤 H 𝓜 𝓡)
+step-by-value-spec 𝓤 H 𝓜 𝓖 𝓡 =
+    entered 𝓤 H (tripleOf 𝓤 H (𝓖 .A) step-by-value.signature (step-by-value.spec 𝓤 H (𝓖 .A) (𝓜 .mem) (𝓡 .run)))
+    (tables 𝓤 H 𝓜 𝓡 code.env .C) (tables 𝓤 H 𝓜 𝓡 code.env .Λ) #step-by-value code.function (code.unfolded 𝓤 H 𝓜 𝓡)
     (meets 𝓤 H (𝓖 .A) (givenOf 𝓤 H 𝓜 𝓖) (𝓜 .mem) (𝓡 .run) (tablesOf 𝓤 H 𝓜 (tables 𝓤 H 𝓜 𝓡 code.env))
     (cited 𝓤 H (Tallies 𝓤 H (𝓖 .A) (givenOf 𝓤 H 𝓜 𝓖) (𝓜 .mem) (𝓡 .run)) 𝓜 𝓡 code.env
     #step-tallied step-tallied-def.routine code.calls-misra-gries·tally·step-tallied (step-tallied-thm.met 𝓤 H 𝓜 𝓖 𝓡)))
