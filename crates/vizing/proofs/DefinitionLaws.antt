@@ -16,6 +16,8 @@ use Rattle.graph.proofs.ColorLaws.{NoneHas, color-set-other, is-colored-true, c
 use Rattle.graph.specs.Color.{noColor}
 use Rattle.graph.specs.Colored.{colorOf, isColored}
 use Rattle.vizing.specs.MisraGries.{edgeOfColor, isFree, store, joins, firstJoining, greatestColor, step, Held, stepHeld}
+-- No name of it is used: the rows are to be checked before the laws, so that a wrong definition is refused for what it gives.
+use Rattle.vizing.specs.Answers
 
 -- ---- options
 
