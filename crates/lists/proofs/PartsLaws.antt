@@ -1,13 +1,13 @@
 -- Laws of what specs/Parts defines.
 use Prim.Native.Nat.{zero, ℕ, suc, _+_, _-_, _≤_, _<_}
-use mathlib.Core.Path.{refl, _≡_, ap, _∙_}
+use mathlib.Core.Path.{refl, _≡_, ap, sym, _∙_}
 use mathlib.Core.Logic.{_⊎_, inl, inr}
 use mathlib.Core.List.{append-nil, List, [], _∷_, _++_}
 use native.Mathlib.Numerals.{add-one}
 use native.Mathlib.Omega.{arith}
 use lib.ListN.{take, drop, set, drop-of-length-le, getD, replicate, length, length-set}
 use lib.Seq.{drop-length, take-length, set-at, take-suc, take-all, append-snoc, drop-cons, drop-set-lt, drop-set-add, take-set-le, getD-set-same, length-take-le, take-add, drop-drop}
-use Rattle.lists.specs.Parts.{part, copiedOver}
+use Rattle.lists.specs.Parts.{part, copiedOver, overwrite}
 
 pub part-empty : (l : List ℕ) (a : ℕ) → part l a a ≡ []
 part-empty l a = let z : a - a ≡ 0 = omega arith in rw z
@@ -64,3 +64,40 @@ pub take-replicate : (n k x : ℕ) → n ≤ k → take n (replicate k x) ≡ re
 take-replicate zero k x h = refl
 take-replicate (suc n) zero x h = let z : ⊥ = omega arith in absurd z
 take-replicate (suc n) (suc k) x h = ap (λ (l : List ℕ). x ∷ l) (take-replicate n k x (omega arith))
+
+-- ---- numbers written one after another
+
+pub overwrite-append : (l : List ℕ) (at : ℕ) (s t : List ℕ) → overwrite l at (s ++ t) ≡ overwrite (overwrite l at s) (at + length s) t
+unfolding overwrite
+overwrite-append l at [] t = let e : at + 0 ≡ at = omega arith in ap (λ (i : ℕ). overwrite l i t) (sym e)
+overwrite-append l at (x ∷ s) t =
+    let e : suc at + length s ≡ at + suc (length s) = omega arith in
+    overwrite-append (set l at x) (suc at) s t ∙ ap (λ (i : ℕ). overwrite (overwrite (set l at x) (suc at) s) i t) e
+
+pub overwrite-length : (l : List ℕ) (at : ℕ) (s : List ℕ) → length (overwrite l at s) ≡ length l
+unfolding overwrite
+overwrite-length l at [] = refl
+overwrite-length l at (x ∷ s) = overwrite-length (set l at x) (suc at) s ∙ length-set l at x
+
+overwrite-behind : (l : List ℕ) (at y : ℕ) (s : List ℕ) → overwrite (y ∷ l) (suc at) s ≡ y ∷ overwrite l at s
+unfolding overwrite
+overwrite-behind l at y [] = refl
+overwrite-behind l at y (x ∷ s) = overwrite-behind (set l at x) (suc at) y s
+
+overwrite-empty : (at : ℕ) (s : List ℕ) → overwrite [] at s ≡ []
+unfolding overwrite
+overwrite-empty at [] = refl
+overwrite-empty at (x ∷ s) = overwrite-empty (suc at) s
+
+-- From place 0 on they stand at the front, as many as there is room for.
+pub overwrite-front : (l s : List ℕ) → overwrite l 0 s ≡ copiedOver s l
+unfolding overwrite copiedOver
+overwrite-front [] [] = refl
+overwrite-front [] (x ∷ s) = overwrite-empty 1 s
+overwrite-front (y ∷ l) [] = refl
+overwrite-front (y ∷ l) (x ∷ s) = overwrite-behind l 0 x s ∙ ap (λ (m : List ℕ). x ∷ m) (overwrite-front l s)
+
+-- With room for all of them, what is behind them is unchanged.
+pub copied-room : (s d : List ℕ) → length s ≤ length d → copiedOver s d ≡ s ++ drop (length s) d
+unfolding copiedOver
+copied-room s d h = rw (take-all (length d) s h)

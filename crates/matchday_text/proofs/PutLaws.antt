@@ -11,11 +11,12 @@ use native.Mathlib.Decide.{decLt}
 use native.Mathlib.Numerals.{add-one}
 use Rattle.lists.proofs.Tests.{by-test}
 use Rattle.matchday_text.specs.Text.{digits, decimal, followed, space, lineFeed, line, edgeLine, edgeLines, daysWord, daysText, refusedWord, refusedText}
-use Rattle.lists.specs.Parts.{copiedOver}
+use Rattle.lists.specs.Parts.{copiedOver, overwrite}
+use Rattle.lists.proofs.PartsLaws.{overwrite-append, overwrite-front}
 use Rattle.graph.specs.Report.{number}
 use Rattle.graph.specs.Edges.{edgeCount, firstEnd, secondEnd}
 use Rattle.graph.specs.Colored.{colorOf}
-use Rattle.matchday_text.specs.Put.{Put, Room, overwrite}
+use Rattle.matchday_text.specs.Put.{Put, Room}
 
 -- ---- laws of the decimal digits: each number's last digit follows the digits of a tenth of it
 
@@ -94,13 +95,6 @@ pub put-none : (text : List ℕ) (at : ℕ) → Put text at [] text at
 unfolding overwrite
 put-none text at = record { text = refl; end = omega arith }
 
-overwrite-append : (text : List ℕ) (at : ℕ) (s t : List ℕ) → overwrite text at (s ++ t) ≡ overwrite (overwrite text at s) (at + length s) t
-unfolding overwrite
-overwrite-append text at [] t = let e : at + 0 ≡ at = omega arith in ap (λ (i : ℕ). overwrite text i t) (sym e)
-overwrite-append text at (b ∷ s) t =
-    let e : suc at + length s ≡ at + suc (length s) = omega arith in
-    overwrite-append (set text at b) (suc at) s t ∙ ap (λ (i : ℕ). overwrite (overwrite (set text at b) (suc at) s) i t) e
-
 put-then : (before : List ℕ) (at : ℕ) (s middle : List ℕ) (next : ℕ) (t after : List ℕ) (end : ℕ) → Put before at s middle next → Put middle next t after end → Put before at (s ++ t) after end
 put-then before at s middle next t after end p q = record {
   text = q .text ∙ rw (p .text, p .end) (sym (overwrite-append before at s t));
@@ -114,23 +108,6 @@ room-next : (before : List ℕ) (at : ℕ) (s middle : List ℕ) (next : ℕ) (t
 room-next before at s middle next t r p = let e = length-append s t in record { below = omega (arith, r .below, p .end) }
 
 -- ---- from the front
-
-overwrite-behind : (text : List ℕ) (at x : ℕ) (bs : List ℕ) → overwrite (x ∷ text) (suc at) bs ≡ x ∷ overwrite text at bs
-unfolding overwrite
-overwrite-behind text at x [] = refl
-overwrite-behind text at x (b ∷ bs) = overwrite-behind (set text at b) (suc at) x bs
-
-overwrite-empty : (at : ℕ) (bs : List ℕ) → overwrite [] at bs ≡ []
-unfolding overwrite
-overwrite-empty at [] = refl
-overwrite-empty at (b ∷ bs) = overwrite-empty (suc at) bs
-
-overwrite-front : (text bs : List ℕ) → overwrite text 0 bs ≡ copiedOver bs text
-unfolding overwrite copiedOver
-overwrite-front [] [] = refl
-overwrite-front [] (b ∷ bs) = overwrite-empty 1 bs
-overwrite-front (x ∷ text) [] = refl
-overwrite-front (x ∷ text) (b ∷ bs) = overwrite-behind text 0 b bs ∙ ap (λ (l : List ℕ). b ∷ l) (overwrite-front text bs)
 
 -- Put from place 0 on, the bytes stand at the front, as many as there is room for, and the answer is their number.
 pub put-front : (before bytes after : List ℕ) (next : ℕ) → Put before 0 bytes after next → (next ≡ length bytes) × (after ≡ copiedOver bytes before)

@@ -1,13 +1,9 @@
 -- Bytes put into a slice one after another, as far as it has room.
-use Prim.Native.Nat.{ℕ, suc, _+_, _≤_}
+use Prim.Native.Nat.{ℕ, _+_, _≤_}
 use mathlib.Core.Path.{_≡_}
-use mathlib.Core.List.{List, [], _∷_}
-use lib.ListN.{length, set}
-
--- The list with these bytes in it from a place on; a byte past its end is left out.
-unfoldable pub overwrite : List ℕ → ℕ → List ℕ → List ℕ
-overwrite text at [] = text
-overwrite text at (b ∷ bs) = overwrite (set text at b) (suc at) bs
+use mathlib.Core.List.{List}
+use lib.ListN.{length}
+use Rattle.lists.specs.Parts.{overwrite}
 
 -- `bytes` were put from place `at` on: what the slice holds then, and the place after them.
 pub record Put (before : List ℕ) (at : ℕ) (bytes after : List ℕ) (next : ℕ) : Type 0 where
