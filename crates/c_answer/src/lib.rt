@@ -3,11 +3,13 @@
 ghost use Rattle.graph.specs.Report.{reportOfIncidence, reportOfColoring};
 ghost use Rattle.line_graph.specs.LineReport.{reportOfLineList};
 ghost use Rattle.graph_file.specs.Report.{reportOfFile};
+ghost use Rattle.write_graph_file.specs.Report.{reportOfWriting};
 ghost use Rattle.c_answer.specs.Answer.{Told};
 use graph::Coloring;
 use graph::IncidenceAnswer;
 use graph_file::FileAnswer;
 use line_graph::LineList;
+use write_graph_file::WriteAnswer;
 
 mod strategy;
 
@@ -51,21 +53,41 @@ pub fn answer_line_list(list: LineList, pairs: &mut usize) -> u32
     }
 }
 
-pub fn answer_file(file: FileAnswer, nodes: &mut usize, edges: &mut usize, tags: &mut usize) -> u32
-    ensures told { λ r. ⌜ Told (reportOfFile file) (now (nodes .entry), now (edges .entry), now (tags .entry)) r
-        (now (nodes .exit), now (edges .exit), now (tags .exit)) ⌝ }
+pub fn answer_file(
+    file: FileAnswer,
+    nodes: &mut usize,
+    edges: &mut usize,
+    tags: &mut usize,
+    method: &mut usize,
+) -> u32
+    ensures told { λ r. ⌜ Told (reportOfFile file) (now (nodes .entry), now (edges .entry), now (tags .entry), now (method .entry)) r
+        (now (nodes .exit), now (edges .exit), now (tags .exit), now (method .exit)) ⌝ }
 {
     match file {
         FileAnswer::Accepted {
             nodes: n,
             edges: m,
             tags: stood,
+            method: named,
         } => {
             *nodes = n;
             *edges = m;
             *tags = stood as usize;
+            *method = named as usize;
             0
         }
         FileAnswer::Refused(refusal) => refusal.number(),
+    }
+}
+
+pub fn answer_writing(writing: WriteAnswer, length: &mut usize) -> u32
+    ensures told { λ r. ⌜ Told (reportOfWriting writing) (now (length .entry)) r (now (length .exit)) ⌝ }
+{
+    match writing {
+        WriteAnswer::Accepted { length: counted } => {
+            *length = counted;
+            0
+        }
+        WriteAnswer::Refused(refusal) => refusal.number(),
     }
 }

@@ -20,7 +20,7 @@ use Rattle.line_list.specs.LineList.{lineChecks, lineGraph}
 use Rattle.greedy.specs.Call.{Rule, ruleOf, itemChecks, greedyItems, greedyItemsPlain, greedyNodes, greedyNodesPlain, edgeNeighbors, greedyEdges, greedyEdgesPlain}
 use Rattle.greedy.specs.declared.ColoringStrategy.{ColoringStrategy}
 use Rattle.vizing.specs.MisraGries.{misraGriesChecks, misraGries}
-use Rattle.graph_file.specs.File.{fileChecks, readFile}
+use Rattle.file_layout.specs.Outcomes.{readChecks, readFile, writeChecks, writeFile}
 use Rattle.c_answer.specs.Answer.{code}
 use Rattle.c_answer.specs.Strategy.{strategyOf}
 use Rattle.capi.specs.Strategy.{unknownStrategy, byNumber, nodesByNumber, edgesByNumber}
@@ -40,9 +40,9 @@ zero-accepted checks values a e = go (firstRefusal checks) refl
 abbrev ZeroAccepts : {A : Type 0} → Report A → Type 0
 ZeroAccepts report = code report ≡ 0 → Accepted report
 
-pub read-file-zero : (bytes lent : List ℕ) → ZeroAccepts (readFile bytes lent .report)
-unfolding readFile fileChecks numbersPass
-read-file-zero bytes lent = zero-accepted (fileChecks bytes lent) _ refl
+pub read-file-zero : (bytes ends colors : List ℕ) → ZeroAccepts (readFile bytes ends colors .report)
+unfolding readFile readChecks numbersPass
+read-file-zero bytes ends colors = zero-accepted (readChecks bytes ends colors) _ refl
 
 module _ (n : ℕ) (ends : List ℕ) where
   pub incidence-zero : (starts entries : List ℕ) → ZeroAccepts (incidenceOf n ends starts entries .report)
@@ -60,6 +60,10 @@ module _ (n : ℕ) (ends : List ℕ) where
   pub misra-gries-zero : (colors : List ℕ) → ZeroAccepts (misraGries n ends colors .report)
   unfolding misraGries misraGriesChecks graphChecks colored numbersPass
   misra-gries-zero colors = zero-accepted (misraGriesChecks n ends colors) _ refl
+
+  pub write-file-zero : (colors : List ℕ) (tags method : ℕ) (output : List ℕ) → ZeroAccepts (writeFile n ends colors tags method output .report)
+  unfolding writeFile writeChecks graphChecks numbersPass
+  write-file-zero colors tags method output = zero-accepted (writeChecks n ends colors tags method output) _ refl
 
   -- ---- greedy colouring
 

@@ -8,7 +8,7 @@ ghost use Rattle.line_list.specs.LineList.{lineGraph};
 ghost use Rattle.greedy.specs.Degree.{degreeColors};
 ghost use Rattle.greedy.specs.Call.{greedyNodes, greedyNodesPlain, greedyEdgesPlain};
 ghost use Rattle.vizing.specs.MisraGries.{misraGries};
-ghost use Rattle.graph_file.specs.File.{readFile};
+ghost use Rattle.file_layout.specs.Outcomes.{readFile, writeFile};
 ghost use Rattle.c_answer.specs.Answer.{Answered};
 ghost use Rattle.capi.specs.Strategy.{nodesByNumber, edgesByNumber};
 use c_answer::StrategyNumber;
@@ -16,6 +16,7 @@ use c_answer::answer_coloring;
 use c_answer::answer_file;
 use c_answer::answer_incidence;
 use c_answer::answer_line_list;
+use c_answer::answer_writing;
 use c_answer::strategy_of;
 use c_answer::unknown_strategy;
 
@@ -164,13 +165,43 @@ pub extern "C" fn wg_misra_gries_edge_color(
 pub extern "C" fn wg_read_graph_file(
     bytes: &[u8],
     ends: &mut [u16],
+    colors: &mut [u16],
     nodes: &mut usize,
     edges: &mut usize,
     tags: &mut usize,
+    method: &mut usize,
 ) -> u32
-    ensures answered { λ r. let bytes = now (bytes .entry) in let ends₀ = now (ends .entry) in let outcome = readFile bytes ends₀ in
-        ⌜ Answered (outcome .report) (outcome .ends) (now (nodes .entry), now (edges .entry), now (tags .entry)) r
-        (now (nodes .exit), now (edges .exit), now (tags .exit)) (now (ends .exit)) ⌝ }
+    ensures answered { λ r. let bytes = now (bytes .entry) in let ends₀ = now (ends .entry) in let colors₀ = now (colors .entry) in
+        let outcome = readFile bytes ends₀ colors₀ in
+        ⌜ Answered {B = List ℕ × List ℕ} (outcome .report) (outcome .ends, outcome .colors)
+        (now (nodes .entry), now (edges .entry), now (tags .entry), now (method .entry)) r
+        (now (nodes .exit), now (edges .exit), now (tags .exit), now (method .exit)) (now (ends .exit), now (colors .exit)) ⌝ }
 {
-    answer_file(wulgranite::read_graph_file(bytes, ends), nodes, edges, tags)
+    answer_file(
+        wulgranite::read_graph_file(bytes, ends, colors),
+        nodes,
+        edges,
+        tags,
+        method,
+    )
+}
+
+#[no_mangle]
+pub extern "C" fn wg_write_graph_file(
+    n: usize,
+    ends: &[u16],
+    colors: &[u16],
+    tags: u8,
+    method: u8,
+    output: &mut [u8],
+    length: &mut usize,
+) -> u32
+    ensures answered { λ r. let ends = now (ends .entry) in let colors = now (colors .entry) in let output₀ = now (output .entry) in
+        let outcome = writeFile n ends colors tags method output₀ in
+        ⌜ Answered (outcome .report) (outcome .output) (now (length .entry)) r (now (length .exit)) (now (output .exit)) ⌝ }
+{
+    answer_writing(
+        wulgranite::write_graph_file(n, ends, colors, tags, method, output),
+        length,
+    )
 }

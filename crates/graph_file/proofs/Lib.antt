@@ -1,3 +1,2 @@
--- Laws of what specs/ defines.
-pub mod LayoutLaws
+-- Laws of reading.
 pub mod CallLaws

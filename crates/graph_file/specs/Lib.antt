@@ -1,5 +1,2 @@
--- The graph file: its bytes, its fields, and the outcome of reading it.
-pub mod File
+-- How reading a file answers.
 pub mod Report
-pub mod Layout
-pub mod Places

@@ -1,15 +1,14 @@
 -- Laws of the text: its greatest length, the text of a file, the call, the example.
 use Prim.Native.Nat.{ℕ, zero, suc, _+_, _*_, _≤_, _<_, min}
-use mathlib.Core.Path.{_≡_, refl, sym, ap, _∙_}
+use mathlib.Core.Path.{_≡_, refl, sym, ap, ap₂, _∙_}
 use mathlib.Core.Logic.{inl, inr, _⊎_}
 use mathlib.Core.List.{List, [], _∷_, _++_}
 use mathlib.Core.Option.{none, some, Option, bind}
 use native.Mathlib.Omega.{arith}
 use lib.Dec.{ltb}
-use lib.ListN.{length, take, replicate, length-append, drop}
+use lib.ListN.{length, take, replicate, length-append}
 use borrow.Author.Tests.{ltb-true}
 use mathlib.Core.Bool.{true}
-use lib.Seq.{take-append-seam}
 use native.Mathlib.Decide.{decLt}
 use Rattle.lists.specs.Member.{Mem}
 use Rattle.lists.proofs.MemberLaws.{place-of}
@@ -23,17 +22,20 @@ use Rattle.vizing.specs.MisraGries.{misraGries, misraGriesChecks, held}
 use Rattle.vizing.specs.Demand3.{Admitted}
 use Rattle.vizing.proofs.Theorem.{max-degree-bound, passed-admitted, demand3, misra-gries-colors, checks-pass}
 use Rattle.vizing.proofs.DefinitionLaws.{some-or-none}
-use Rattle.matchday_text.specs.Text.{followed, decimal, line, edgeLine, edgeLines, daysText, refusedText, reportText, outcomeText, coloredText, daysWord, refusedWord, space, lineFeed, fileText, digits}
+use Rattle.matchday_text.specs.Text.{followed, decimal, line, edgeLine, edgeLines, daysText, refusedText, reportText, outcomeText, coloredText, daysWord, refusedWord, space, lineFeed, fileText, PassesOver, digits}
 use Rattle.matchday_text.proofs.PutLaws.{decimal-length, put-front}
 use Rattle.lists.specs.Parts.{copiedOver}
 use Rattle.lists.specs.Search.{allBelow}
 use Rattle.graph.specs.Report.{number, reportOfColoring}
 use Rattle.graph.specs.Table.{over}
 use Rattle.graph.specs.declared.Refusal.{Refusal}
-use Rattle.graph_file.specs.File.{File, fileOf, fields, fieldsUpTo, graphOf}
+use Rattle.file_layout.specs.Fields.{fields, fieldsUpTo}
+use Rattle.file_layout.specs.File.{File, tagBit, graphFile, fileOf, savedOf, WellFormed, LaidOut}
+use Rattle.file_layout.specs.Outcomes.{Summary, summary}
+use Rattle.file_layout.specs.Reliance.{FileReader}
+use Rattle.file_layout.proofs.FileLaws.{read-laid, laid-out, read-bytes}
+use Rattle.file_layout.proofs.OutcomeLaws.{over-front}
 use Rattle.graph_file.specs.Report.{reportOfFile}
-use Rattle.graph_file.specs.Layout.{LaidOut, FileReader}
-use Rattle.graph_file.proofs.LayoutLaws.{read-laid, laid-out, read-bytes}
 use Rattle.graph_file.specs.declared.FileAnswer.{FileAnswer}
 use Rattle.graph_file.specs.declared.FileAnswer.the-variants as F
 use Rattle.matchday_text.specs.Put.{Put, Room}
@@ -187,21 +189,36 @@ text-bound bytes = elim (file-or-none (fileOf bytes)) [
 pub text-fits : (bytes : List ℕ) (r : ℕ) → r ≡ length (fileText bytes) → r ≤ 98330
 text-fits bytes r e = omega (arith, e, text-bound bytes)
 
--- The front of a list that another was written over.
-written-front : (file lent ends : List ℕ) (k : ℕ) → k ≡ length file → ends ≡ over file lent → take k ends ≡ file
-written-front file lent ends k h e = rw (h, e) (take-append-seam file (drop (length file) lent))
+-- ---- the promises of a file's text
 
--- ---- a refused reading
+-- What the code answers and writes is the file's text, whichever tags stand behind the graph.
+abbrev Printed : List ℕ → List ℕ → ℕ → List ℕ → Type 0
+Printed bytes before answer after = (answer ≡ length (fileText bytes)) × ((after ≡ copiedOver (fileText bytes) before) × PassesOver bytes before answer after)
 
-module _ (bytes lent : List ℕ) (c : FileAnswer) (ends : List ℕ) (room : length lent ≡ 8192) (reader : FileReader bytes lent (reportOfFile c) ends) where
+printed : (bytes before after : List ℕ) (answer : ℕ) → answer ≡ length (fileText bytes) → after ≡ copiedOver (fileText bytes) before → Printed bytes before answer after
+printed bytes before after answer p q =
+    (p, (q, record { graph-text = λ file l. let e = file-text bytes file (read-laid bytes file l) in (p ∙ ap length e, q ∙ ap (λ (t : List ℕ). copiedOver t before) e) }))
+
+module _ (bytes ends₀ colors₀ : List ℕ) (c : FileAnswer) (ends colors : List ℕ) (room : length ends₀ ≡ 8192) (places : length colors₀ ≡ 4096)
+    (reader : FileReader bytes ends₀ colors₀ (reportOfFile c) ends colors) where
+  -- ---- a refused reading
+
   module _ (r : Refusal) (p : c ≡ F.Refused r) (x : ℕ) (q : x ≡ number r) (below : allBelow 256 bytes ≡ true) where
-    -- With room for the ends of every file only bytes without the layout are refused.
+    -- A file has no more colours than edges.
+    colors-room : (file : File) → WellFormed file → length (file .colors) ≤ 4096
+    colors-room file w = elim (w .others) [
+      | inl a ↦ rw (a .colors) (omega arith)
+      | inr (inl a) ↦ omega (arith, a .colors, w .edges)
+      | inr (inr a) ↦ omega (arith, a .colors, w .edges)
+    ]
+
+    -- With room for the ends and colours of every file only bytes without the layout are refused.
     no-file : fileOf bytes ≡ none
     no-file = elim (file-or-none (fileOf bytes)) [
       | inl e ↦ e
       | inr (file, e) ↦
-          let l = laid-out bytes file below e .0 in
-          let a = reader .reads (file .nodes) (file .ends) l (omega (arith, l .even, l .edges)) .0 in
+          let l = laid-out bytes file below e in
+          let a = reader .reads file l (omega (arith, l .formed .even, l .formed .edges)) (omega (arith, colors-room file (l .formed))) .0 in
           let b = ap reportOfFile p in
           let z : _≡_ {A = ℕ} 0 1 = cc in
           absurd (omega arith)
@@ -209,7 +226,7 @@ module _ (bytes lent : List ℕ) (c : FileAnswer) (ends : List ℕ) (room : leng
 
     ten : x ≡ 10
     ten =
-        let a = reader .bad (λ n file l. let b = read-laid bytes n file l in let e = no-file in let z : _≡_ {A = ℕ} 0 1 = cc in omega arith) in
+        let a = reader .bad (λ file l. let b = read-laid bytes file l in let e = no-file in let z : _≡_ {A = ℕ} 0 1 = cc in omega arith) in
         let b = ap reportOfFile p in
         let i : number r ≡ 10 = cc in
         q ∙ i
@@ -220,29 +237,37 @@ module _ (bytes lent : List ℕ) (c : FileAnswer) (ends : List ℕ) (room : leng
     pub unread-room : Room 0 (refusedText x)
     unread-room = record { below = let b = refused-length x (omega (arith, ten)) in omega (arith, b) }
 
-    pub unread-text : (before after : List ℕ) (end : ℕ) → Put before 0 (refusedText x) after end → (end ≡ length (fileText bytes)) × (after ≡ copiedOver (fileText bytes) before)
-    unread-text before after end put = rw unread-whole (put-front before (refusedText x) after end put)
+    pub unread-text : (before after : List ℕ) (end : ℕ) → Put before 0 (refusedText x) after end → Printed bytes before end after
+    unread-text before after end put =
+        let f = put-front before (refusedText x) after end put in
+        printed bytes before after end (f .0 ∙ ap length (sym unread-whole)) (f .1 ∙ ap (λ (t : List ℕ). copiedOver t before) (sym unread-whole))
 
   -- ---- a file that was read
 
-  module _ (n m tags : ℕ) (p : c ≡ F.Accepted n m tags) where
-    found : (file : List ℕ) × LaidOut bytes n file × (edgeCount file ≡ m) × (tags ≡ 3) × (ends ≡ over file lent)
-    found = reader .laid n m tags (ap reportOfFile p)
+  module _ (n m tags method : ℕ) (p : c ≡ F.Accepted n m tags method) where
+    abbrev found : (file : File) × LaidOut bytes file × (summary file ≡ (n, m, tags, method)) × (ends ≡ over (file .ends) ends₀) × (colors ≡ over (file .colors) colors₀)
+    found = reader .laid (n, m, tags, method) (ap reportOfFile p)
+
+    edges-are : edgeCount (found .0 .ends) ≡ m
+    unfolding summary
+    edges-are = ap (λ (u : Summary). u .1) (found .2)
+
+    nodes-are : found .0 .nodes ≡ n
+    unfolding summary
+    nodes-are = ap (λ (u : Summary). u .0) (found .2)
 
     pub read-edges : m ≤ 4096
-    read-edges = let f = found in omega (arith, f .1 .edges, f .2)
+    read-edges = omega (arith, found .1 .formed .edges, edges-are)
 
     -- The ends of the file are the first 2m numbers of the list.
     read-ends : fileText bytes ≡ coloredText n (take (2 * m) ends)
     read-ends =
-        let f = found in
-        let l = f .1 in
-        let k : 2 * m ≡ length (f .0) = omega (arith, l .even, f .2) in
-        let e : take (2 * m) ends ≡ f .0 = written-front (f .0) lent ends (2 * m) k (f .4) in
-        file-text bytes (record { nodes = n; ends = f .0; tags = 3 }) (read-laid bytes n (f .0) l) ∙ ap (coloredText n) (sym e)
+        let k : 2 * m ≡ length (found .0 .ends) = omega (arith, found .1 .formed .even, edges-are) in
+        let e : take (2 * m) ends ≡ found .0 .ends = ap (take (2 * m)) (found .3) ∙ over-front (found .0 .ends) ends₀ (2 * m) k in
+        file-text bytes (found .0) (read-laid bytes (found .0) (found .1)) ∙ ap₂ coloredText nodes-are (sym e)
 
-    pub read-text : (before after : List ℕ) (end : ℕ) → end ≡ length (coloredText n (take (2 * m) ends)) → after ≡ copiedOver (coloredText n (take (2 * m) ends)) before → (end ≡ length (fileText bytes)) × (after ≡ copiedOver (fileText bytes) before)
-    read-text before after end h k = rw read-ends (h, k)
+    pub read-text : (before after : List ℕ) (end : ℕ) → end ≡ length (coloredText n (take (2 * m) ends)) → after ≡ copiedOver (coloredText n (take (2 * m) ends)) before → Printed bytes before end after
+    read-text before after end h k = printed bytes before after end (h ∙ ap length (sym read-ends)) (k ∙ ap (λ (t : List ℕ). copiedOver t before) (sym read-ends))
 
 -- Laws of a call's text: one for each answer, and the places that are lent.
 
@@ -324,8 +349,12 @@ example-colored =
     ∙ example-lines
 
 pub example : ExamplePrinted
-example = file-text exampleFile (record { nodes = 4; ends = listP13; tags = 3 }) (ap fileOf example-file ∙ read-bytes 4 listP13 refl (omega arith)) ∙ example-colored
+unfolding graphFile tagBit allBelow
+example = file-text exampleFile (graphFile 4 listP13) (ap fileOf example-file ∙ read-bytes (graphFile 4 listP13) formed) ∙ example-colored
+  where
+    formed : WellFormed (graphFile 4 listP13)
+    formed = record { nodes = omega arith; below = refl; even = refl; edges = omega arith; others = inl (record { tags = refl; colors = refl; method = refl }) }
 
 pub empty-file : EmptyFileRefused
-unfolding bind fileOf fields fieldsUpTo graphOf refusedText followed decimal digits
+unfolding bind fileOf fields fieldsUpTo savedOf refusedText followed decimal digits
 empty-file = no-file-text [] refl

@@ -4,7 +4,8 @@ use mathlib.Core.List.{List, [], _∷_, _++_}
 use Prim.Native.Nat.{ℕ}
 use Rattle.graph.specs.Edges.{firstEnd, secondEnd}
 use Rattle.graph.specs.Colored.{colorOf}
-use Rattle.graph_file.specs.Layout.{graphBytes, fieldBytes, bytesOf, bytes16}
+use Rattle.file_layout.specs.Fields.{fieldsBytes, fieldBytes, bytesOf, bytes16}
+use Rattle.file_layout.specs.File.{graphFile, fileBytes, fileFields, otherFields, fieldIf, hasTag, tagBit}
 use Rattle.vizing.specs.Demand3Examples.{listP13}
 use Rattle.matchday_text.specs.Text.{digits, decimal, followed, line, edgeLine, edgeLines, daysText, fileText}
 
@@ -30,8 +31,8 @@ exampleText =
     ++ (50 ∷ 32 ∷ 48 ∷ 32 ∷ 50 ∷ 32 ∷ 48 ∷ 10 ∷ [])
     ++ (51 ∷ 32 ∷ 50 ∷ 32 ∷ 51 ∷ 32 ∷ 50 ∷ 10 ∷ [])
 
-pub example-file : exampleFile ≡ graphBytes 4 listP13
-unfolding graphBytes fieldBytes bytesOf bytes16
+pub example-file : exampleFile ≡ fileBytes (graphFile 4 listP13)
+unfolding fileBytes graphFile fileFields otherFields fieldIf hasTag tagBit fieldsBytes fieldBytes bytesOf bytes16
 example-file = refl
 
 pub example-lines : daysText 3 listP13 (2 ∷ 1 ∷ 0 ∷ 2 ∷ []) ≡ exampleText

@@ -1,15 +1,17 @@
 -- What is printed, as a list of bytes (ASCII).
 use Prim.Native.Nat.{ℕ, zero, suc, _+_, _/_, _%_}
+use mathlib.Core.Path.{_≡_}
 use mathlib.Core.Bool.{true, false}
 use mathlib.Core.Option.{none, some}
 use mathlib.Core.List.{List, [], _∷_, _++_}
 use lib.Dec.{ltb}
-use lib.ListN.{replicate}
+use lib.ListN.{length, replicate}
+use Rattle.lists.specs.Parts.{copiedOver}
 use Rattle.graph.specs.Report.{Report, accepted, refused}
 use Rattle.graph.specs.Edges.{edgeCount, firstEnd, secondEnd}
 use Rattle.graph.specs.Color.{Outcome, noColor}
 use Rattle.graph.specs.Colored.{colorOf}
-use Rattle.graph_file.specs.File.{fileOf}
+use Rattle.file_layout.specs.File.{File, fileOf, LaidOut}
 use Rattle.vizing.specs.MisraGries.{misraGries}
 
 -- The digits of x in base ten, of `fuel` places at most; 48 is the byte of digit 0.
@@ -72,6 +74,10 @@ outcomeText ends outcome = reportText ends (outcome .report) (outcome .colors)
 unfoldable pub coloredText : ℕ → List ℕ → List ℕ
 coloredText n ends = outcomeText ends (misraGries n ends (replicate (edgeCount ends) noColor))
 
--- "reads one file from standard input": bytes without the layout, as where there are more than 16,392, are refused by 10.
+-- "reads one file from standard input": bytes without the layout are refused by 10; `matchdays` passes over tags 3 and 4.
 unfoldable pub fileText : List ℕ → List ℕ
 fileText bytes = elim (fileOf bytes) [ none ↦ refusedText 10 | some file ↦ coloredText (file .nodes) (file .ends) ]
+
+-- "`matchdays` passes over them": of a file with this graph the text is the graph's, whichever tags stand behind it. `answer` is the whole length, `after` what the slice holds.
+pub record PassesOver (bytes before : List ℕ) (answer : ℕ) (after : List ℕ) : Type 0 where
+  pub graph-text : (file : File) → LaidOut bytes file → (answer ≡ length (coloredText (file .nodes) (file .ends))) × (after ≡ copiedOver (coloredText (file .nodes) (file .ends)) before)

@@ -4,7 +4,7 @@ ghost use Prim.Native.Nat.{_/_, min};
 ghost use lib.ListN.{length};
 ghost use Rattle.lists.specs.Parts.{copiedOver};
 ghost use Rattle.vizing.specs.MisraGries.{misraGries};
-ghost use Rattle.matchday_text.specs.Text.{outcomeText, coloredText, fileText};
+ghost use Rattle.matchday_text.specs.Text.{outcomeText, coloredText, fileText, PassesOver};
 use graph::Color;
 use graph::Coloring;
 use graph::Graph;
@@ -57,14 +57,18 @@ pub fn matchday_text(bytes: &[u8], text: &mut [u8]) -> usize
     ensures answer { λ r. ⌜ r ≡ length (fileText (now (bytes .entry))) ⌝ }
     ensures text { λ _. let bytes = now (bytes .entry) in let text₀ = now (text .entry) in
         ⌜ now (text .exit) ≡ copiedOver (fileText bytes) text₀ ⌝ }
+    ensures passes_over { λ r. let bytes = now (bytes .entry) in let text₀ = now (text .entry) in
+        ⌜ PassesOver bytes text₀ r (now (text .exit)) ⌝ }
 {
     let mut ends = [0u16; Graph::ENTRIES];
-    match read_graph_file(bytes, &mut ends) {
+    let mut saved = [Color::NONE; Graph::MAX_EDGES];
+    match read_graph_file(bytes, &mut ends, &mut saved) {
         FileAnswer::Refused(refusal) => put_refused(text, refusal.number() as usize),
         FileAnswer::Accepted {
             nodes,
             edges,
             tags: _,
+            method: _,
         } => {
             let count = 2 * edges;
             graph_text(nodes, &ends[..count], text)

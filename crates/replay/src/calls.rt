@@ -162,7 +162,18 @@ pub(crate) fn call(
     let presets = &presets[..p];
     let f = cut_bytes(sizes.file, file);
     let file = &file[..f];
-    let end = replay_calls::call(text, waiting, n, ends, line, list, entries, bytes, file);
+    let end = replay_calls::call(
+        text,
+        waiting,
+        n,
+        ends,
+        presets,
+        line,
+        list,
+        entries,
+        bytes,
+        file,
+    );
     let end = call_colorings(text, end, n, ends, presets, line, list);
     call_matchdays(text, end, file, line, bytes)
 }

@@ -1,16 +1,18 @@
 // The calls of the program `replay` that need no other colours than two: the table of incidences, a node's edges, two_color, the line
-// list, a file. Each lends so much of its slices as its line says, calls, and prints the answer. Part of a test program; the
+// list, the files. Each lends so much of its slices as its line says, calls, and prints the answer. Part of a test program; the
 // functions promise nothing but to end.
 use crate::report::put_coloring;
 use crate::report::put_file;
 use crate::report::put_incidence;
 use crate::report::put_line_list;
 use crate::report::put_walk;
+use crate::report::put_written;
 use edge_walk::edges_at;
 use graph::NodeIndex;
 use replay_input::Line;
 use replay_input::Name;
 use replay_input::narrow;
+use replay_input::narrow_byte;
 use replay_output::cut;
 use replay_output::cut_after;
 use replay_output::cut_bytes;
@@ -127,13 +129,40 @@ fn call_read_file(
     file: &[u8],
     line: Line,
     list: &mut [u16],
+    entries: &mut [u16],
 ) -> usize {
-    let c = cut(line.first, list);
-    let ends = &mut list[..c];
+    let e = cut(line.first, list);
+    let c = cut(line.second, entries);
+    let ends = &mut list[..e];
+    let colors = &mut entries[..c];
     lend(ends);
-    let answer = graph_file::read_graph_file(file, ends);
+    lend(colors);
+    let answer = graph_file::read_graph_file(file, ends, colors);
     let end = put_file(text, waiting, answer);
     let end = put_list(text, end, ends);
+    let end = put(text, end, b';');
+    let end = put_list(text, end, colors);
+    put(text, end, b'\n')
+}
+
+// The colours are those of the presets line.
+fn call_write_file(
+    text: &mut [u8],
+    waiting: usize,
+    n: usize,
+    ends: &[u16],
+    colors: &[u16],
+    line: Line,
+    bytes: &mut [u8],
+) -> usize {
+    let c = cut_bytes(line.third, bytes);
+    let output = &mut bytes[..c];
+    lend_bytes(output);
+    let tags = narrow_byte(line.first);
+    let method = narrow_byte(line.second);
+    let answer = write_graph_file::write_graph_file(n, ends, colors, tags, method, output);
+    let end = put_written(text, waiting, answer);
+    let end = put_bytes(text, end, output);
     put(text, end, b'\n')
 }
 
@@ -143,6 +172,7 @@ pub fn call(
     waiting: usize,
     n: usize,
     ends: &[u16],
+    presets: &[u16],
     line: Line,
     list: &mut [u16],
     entries: &mut [u16],
@@ -156,7 +186,8 @@ pub fn call(
         Name::EdgeWalk => call_edge_walk(text, waiting, n, ends, line, list, entries),
         Name::TwoColor => call_two_color(text, waiting, n, ends, line, bytes),
         Name::LineGraph => call_line_graph(text, waiting, n, ends, line, list),
-        Name::ReadGraphFile => call_read_file(text, waiting, file, line, list),
+        Name::ReadGraphFile => call_read_file(text, waiting, file, line, list, entries),
+        Name::WriteGraphFile => call_write_file(text, waiting, n, ends, presets, line, bytes),
         _ => waiting,
     }
 }

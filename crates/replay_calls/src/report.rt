@@ -12,6 +12,7 @@ use replay_output::put_all;
 use replay_output::put_list;
 use replay_output::put_number;
 use replay_output::put_report;
+use write_graph_file::WriteAnswer;
 
 fn put_refused(text: &mut [u8], waiting: usize, name: &[u8], refusal: Refusal) -> usize {
     put_report(text, waiting, name, b"refused", refusal.number() as u64)
@@ -94,15 +95,51 @@ pub(crate) fn put_walk(
     }
 }
 
+fn put_read(
+    text: &mut [u8],
+    waiting: usize,
+    nodes: u64,
+    edges: u64,
+    tags: u64,
+    method: u64,
+) -> usize {
+    let end = put_all(text, waiting, b"read_graph_file nodes ");
+    let end = put_number(text, end, nodes);
+    let end = put_all(text, end, b" edges ");
+    let end = put_number(text, end, edges);
+    let end = put_all(text, end, b" tags ");
+    let end = put_number(text, end, tags);
+    put_report(text, end, b"", b"method", method)
+}
+
 pub(crate) fn put_file(text: &mut [u8], waiting: usize, answer: FileAnswer) -> usize {
     match answer {
-        FileAnswer::Accepted { nodes, edges, tags } => {
-            let end = put_all(text, waiting, b"read_graph_file nodes ");
-            let end = put_number(text, end, nodes as u64);
-            let end = put_all(text, end, b" edges ");
-            let end = put_number(text, end, edges as u64);
-            put_report(text, end, b"", b"tags", tags as u64)
-        }
+        FileAnswer::Accepted {
+            nodes,
+            edges,
+            tags,
+            method,
+        } => put_read(
+            text,
+            waiting,
+            nodes as u64,
+            edges as u64,
+            tags as u64,
+            method as u64,
+        ),
         FileAnswer::Refused(refusal) => put_refused(text, waiting, b"read_graph_file", refusal),
+    }
+}
+
+pub(crate) fn put_written(text: &mut [u8], waiting: usize, answer: WriteAnswer) -> usize {
+    match answer {
+        WriteAnswer::Accepted { length } => put_report(
+            text,
+            waiting,
+            b"write_graph_file",
+            b"length",
+            length as u64,
+        ),
+        WriteAnswer::Refused(refusal) => put_refused(text, waiting, b"write_graph_file", refusal),
     }
 }

@@ -121,7 +121,7 @@ pub(crate) fn read_list(buffer: &mut [u8], input: Cursor, list: &mut [u16]) -> L
 }
 
 // The same of bytes.
-fn narrow_byte(value: usize) -> u8
+pub fn narrow_byte(value: usize) -> u8
     ensures answer { λ r. ⌜ (value ≤ 255 → r ≡ value) ⌝ }
 {
     if value > 255 { 255 } else { value as u8 }

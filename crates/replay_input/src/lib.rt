@@ -7,6 +7,7 @@ mod names;
 
 pub use cursor::Cursor;
 pub use input::narrow;
+pub use input::narrow_byte;
 pub use lines::Line;
 pub use lines::Sizes;
 pub use lines::read_line;

@@ -131,20 +131,22 @@ fn read_table(buffer: &mut [u8], input: Cursor, starts: &mut [u16], entries: &mu
     }
 }
 
-// A call's name and at most two numbers; a name that is unknown reads the same.
+// A call's name and at most three numbers; a name that is unknown reads the same.
 fn read_call(buffer: &mut [u8], input: Cursor, name: Name) -> Line
     ensures left { λ r. ⌜ r .next .left ≤ input .left - 1 ⌝ }
 {
     let first = read_number(buffer, input);
     let from = first.input;
     let second = read_number(buffer, from);
-    let rest = second.input;
+    let from = second.input;
+    let third = read_number(buffer, from);
+    let rest = third.input;
     let next = skip_line(buffer, rest);
     Line {
         name,
         first: first.value,
         second: second.value,
-        third: 0,
+        third: third.value,
         next,
     }
 }

@@ -21,6 +21,7 @@ pub enum Name {
     MisraGriesEdgeColor,
     File,
     ReadGraphFile,
+    WriteGraphFile,
     Matchdays,
     Unknown,
 }
@@ -97,6 +98,9 @@ fn name_of(word: &[u8]) -> Name {
     }
     if same(word, b"read_graph_file") {
         return Name::ReadGraphFile;
+    }
+    if same(word, b"write_graph_file") {
+        return Name::WriteGraphFile;
     }
     if same(word, b"matchdays") {
         return Name::Matchdays;

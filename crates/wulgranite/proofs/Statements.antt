@@ -4,6 +4,8 @@ use Rattle.two_color.proofs.TwoColorLaws.{one-bipartition}
 use Rattle.vizing.specs.Clause.{ClauseIsClaim}
 use Rattle.vizing.proofs.ClauseLaws.{clause-is-claim, wrong-calls-fall}
 use Rattle.vizing.specs.WrongCalls.{WrongCallsFall}
+use Rattle.file_layout.specs.Reliance.{LongestFile}
+use Rattle.file_layout.proofs.OutcomeLaws.{longest-file}
 
-pub statements : OneBipartition × ClauseIsClaim × WrongCallsFall
-statements = (one-bipartition, clause-is-claim, wrong-calls-fall)
+pub statements : OneBipartition × ClauseIsClaim × WrongCallsFall × LongestFile
+statements = (one-bipartition, clause-is-claim, wrong-calls-fall, longest-file)

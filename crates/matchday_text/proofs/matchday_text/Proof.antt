@@ -13,30 +13,34 @@ use Rattle.matchday_text.proofs.matchday_text.Tie as tie
 bytes-below : (c : tie.After-shared-slice-known) → allBelow 256 (c .before .args .bytes .now) ≡ true
 bytes-below c = below-all 256 (c .before .args .bytes .now) (λ i h. omega (arith, c .shared-slice-known .given i))
 
-put-refused-requires : tie.Need-put-refused-requires
-put-refused-requires c κs = let at-refusal = c .before .before .before in let at-read-graph-file = at-refusal .before .before .before in let at-9 = at-read-graph-file .before .before .before in
-    unread-room _ _ _ _ refl (at-read-graph-file .read-graph-file .ensures .1 .1) _ (at-refusal .refusal .given .1) _ (c .number .ensures) (bytes-below (at-9))
-
-mul-count : tie.Need-mul-count
-mul-count c = omega (arith, read-edges _ _ _ _ refl (c .before .before .before .before .read-graph-file .ensures .1 .1) _ _ _ (c .before .nodes .given .1))
-
-array-share-prefix-ends : tie.Need-array-share-prefix-ends
-array-share-prefix-ends c = omega (arith, read-edges _ _ _ _ refl (c .before .before .before .before .read-graph-file .ensures .1 .1) _ _ _ (c .before .nodes .given .1))
-
-slice-aggregate-graph-text : tie.Need-slice-aggregate-graph-text
-slice-aggregate-graph-text c = sym (length-take-le _ _ (omega (arith, c .before .before .before .before .before .read-graph-file .kept .1 .0, read-edges _ _ _ _ refl (c .before .before .before .before .before .read-graph-file .ensures .1 .1) _ _ _ (c .before .before .nodes .given .1))))
-
 returns : tie.Need-returns
-returns c = let at-number = c .before .before .before in let at-refusal = at-number .before .before .before in let at-read-graph-file = at-refusal .before .before .before in let at-12 = at-read-graph-file .before .before .before in
-    unread-text _ _ _ _ refl (at-read-graph-file .read-graph-file .ensures .1 .1) _ (at-refusal .refusal .given .1) _ (at-number .number .ensures) (bytes-below (at-12)) _ _ _ (c .before .before .put-refused .ensures)
+returns c =
+    let at-number = c .before .before .before in let at-refusal = at-number .before .before .before in let at-read = at-refusal .before .before .before .before in let at-bytes = at-read .before .before .before .before in
+    unread-text _ _ _ _ _ _ refl refl (at-read .read-graph-file .ensures .1 .1 .1) _ (at-refusal .refusal .given .1) _ (at-number .number .ensures) (bytes-below at-bytes) _ _ _ (c .before .before .put-refused .ensures)
 
 returns-2 : tie.Need-returns-2
-returns-2 c = let at-nodes = c .before .before .before .before .before .before in let at-read-graph-file = at-nodes .before .before .before in
-    read-text _ _ _ _ refl (at-read-graph-file .read-graph-file .ensures .1 .1) _ _ _ (at-nodes .nodes .given .1) _ _ _ (c .before .before .graph-text .ensures .0) (c .before .before .graph-text .ensures .1)
+returns-2 c = let at-nodes = c .before .before .before .before .before .before in let at-read = at-nodes .before .before .before .before in
+    read-text _ _ _ _ _ _ refl refl (at-read .read-graph-file .ensures .1 .1 .1) _ _ _ _ (at-nodes .nodes .given .1) _ _ _ (c .before .before .graph-text .ensures .0) (c .before .before .graph-text .ensures .1)
+
+put-refused-requires : tie.Need-put-refused-requires
+put-refused-requires c κs = let at-refusal = c .before .before .before in let at-read = at-refusal .before .before .before .before in let at-bytes = at-read .before .before .before .before in
+    unread-room _ _ _ _ _ _ refl refl (at-read .read-graph-file .ensures .1 .1 .1) _ (at-refusal .refusal .given .1) _ (c .number .ensures) (bytes-below at-bytes)
+
+mul-count : tie.Need-mul-count
+mul-count c = let at-nodes = c .before in let at-read = at-nodes .before .before .before .before in
+    omega (arith, read-edges _ _ _ _ _ _ refl refl (at-read .read-graph-file .ensures .1 .1 .1) _ _ _ _ (at-nodes .nodes .given .1))
+
+array-share-prefix-ends : tie.Need-array-share-prefix-ends
+array-share-prefix-ends c = let at-nodes = c .before in let at-read = at-nodes .before .before .before .before in
+    omega (arith, read-edges _ _ _ _ _ _ refl refl (at-read .read-graph-file .ensures .1 .1 .1) _ _ _ _ (at-nodes .nodes .given .1))
+
+slice-aggregate-graph-text : tie.Need-slice-aggregate-graph-text
+slice-aggregate-graph-text c = let at-nodes = c .before .before in let at-read = at-nodes .before .before .before .before in
+    sym (length-take-le _ _ (omega (arith, at-read .read-graph-file .kept .1 .0, read-edges _ _ _ _ _ _ refl refl (at-read .read-graph-file .ensures .1 .1 .1) _ _ _ _ (at-nodes .nodes .given .1))))
 
 pub matchday-text-spec : {M : Type 1} → statement M
 matchday-text-spec = tie.close (tie.spec
-    (λ c. search needs) (λ c κs. search needs) (λ c. search needs) (λ c κs. search needs) (λ c. search needs)
+    (λ c. search needs) (λ c. search needs) (λ c κs. search needs) (λ c. search needs) (λ c κs. search needs) (λ c. search needs)
     put-refused-requires
     (λ c. search needs)
     mul-count

@@ -1,0 +1,2 @@
+-- Laws of the code's answers.
+pub mod LayoutLaws

@@ -1,0 +1,2 @@
+-- What the code says of a file's fields.
+pub mod Layout

@@ -1,0 +1,4 @@
+-- Laws of what specs/ defines.
+pub mod FieldLaws
+pub mod FileLaws
+pub mod OutcomeLaws

@@ -1,0 +1,2 @@
+-- How writing a file answers.
+pub mod Report
