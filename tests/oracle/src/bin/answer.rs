@@ -1,5 +1,6 @@
 //! Reads cases on standard input and prints what the Rust answers, one line for each call; README.md has the format.
-//! Where document 01 refuses, the number is 01's; every other answer is that of the unchanged published code.
+//! Where document 01 or 02 refuses, the number is theirs, and files are read and written as rules.rs does; every other
+//! answer is that of the unchanged published code.
 
 use std::fmt::Display;
 use std::io::{BufWriter, Read, Write};
@@ -16,7 +17,8 @@ enum Report {
     Days(usize),
     Total(usize),
     Pairs(usize),
-    File(u16, usize),
+    File(u16, usize, u8, u8),
+    Length(usize),
     Refused(u8),
 }
 
@@ -26,7 +28,10 @@ impl Display for Report {
             Report::Days(days) => write!(f, "days {days}"),
             Report::Total(total) => write!(f, "total {total}"),
             Report::Pairs(pairs) => write!(f, "pairs {pairs}"),
-            Report::File(nodes, edges) => write!(f, "nodes {nodes} edges {edges} tags 3"),
+            Report::File(nodes, edges, tags, method) => {
+                write!(f, "nodes {nodes} edges {edges} tags {tags} method {method}")
+            }
+            Report::Length(length) => write!(f, "length {length}"),
             Report::Refused(number) => write!(f, "refused {number}"),
         }
     }
@@ -182,7 +187,10 @@ fn edge_walk(graph: &Graph, v: u16, place: usize) -> String {
     let mut words = Vec::new();
     if graph.refusal.is_none() && u64::from(v) < graph.n {
         let edges = graph.petgraph.edges(NodeIndex::new(v.into()));
-        words = edges.skip(place).map(|e| e.id().index().to_string()).collect();
+        words = edges
+            .skip(place)
+            .map(|e| e.id().index().to_string())
+            .collect();
     }
     words.push("end".to_string());
     words.join(" ")
@@ -297,12 +305,63 @@ fn misra_gries(graph: &Graph, colors: &mut Lent<u16>) -> Report {
     )
 }
 
-/// What the program prints for a file, given the Rust's colours.
+/// What both file calls promise: where the graph checks pass, a file's contents are written with its bytes.
+fn check_round_trip(file: &[u8], saved: &rules::Saved) {
+    assert_eq!(rules::read_file(file).as_ref(), Some(saved));
+    if rules::graph_refusal(saved.nodes.into(), &saved.ends).is_none() {
+        let colors = saved.colors.as_deref().unwrap_or(&[]);
+        let method = saved.method.unwrap_or(rules::UNNAMED);
+        let n = saved.nodes.into();
+        let again = rules::write_file(n, &saved.ends, colors, saved.tags(), method, file.len());
+        assert_eq!(again.as_deref(), Ok(file));
+    }
+}
+
+fn read_graph_file(file: &[u8], ends: &mut Lent<u16>, colors: &mut Lent<u16>) -> Report {
+    let saved = match rules::read_lent(file, ends.now.len(), colors.now.len()) {
+        Err(number) => return Report::Refused(number),
+        Ok(saved) => saved,
+    };
+    check_round_trip(file, &saved);
+    ends.now[..saved.ends.len()].copy_from_slice(&saved.ends);
+    if let Some(stored) = &saved.colors {
+        colors.now[..stored.len()].copy_from_slice(stored);
+    }
+    let method = saved.method.unwrap_or(rules::UNNAMED);
+    Report::File(saved.nodes, saved.m(), saved.tags(), method)
+}
+
+fn write_graph_file(
+    graph: &Graph,
+    colors: &[u16],
+    tags: u8,
+    method: u8,
+    output: &mut Lent<u8>,
+) -> Report {
+    let room = output.now.len();
+    let file = match rules::write_file(graph.n, &graph.ends, colors, tags, method, room) {
+        Err(number) => return Report::Refused(number),
+        Ok(file) => file,
+    };
+    let saved = rules::read_file(&file).expect("what is written can be read");
+    check_round_trip(&file, &saved);
+    assert_eq!(
+        (u64::from(saved.nodes), &saved.ends),
+        (graph.n, &graph.ends)
+    );
+    assert_eq!(saved.tags(), tags & 12 | 3);
+    assert!(saved.colors.map_or(true, |stored| stored == colors));
+    assert!(saved.method.map_or(true, |stored| stored == method));
+    output.now[..file.len()].copy_from_slice(&file);
+    Report::Length(file.len())
+}
+
+/// What the program prints for a file, given the Rust's colours. Colours and method in the file are passed over.
 fn matchdays(file: &[u8]) -> String {
-    let Some((n, ends)) = rules::read_file(file) else {
+    let Some(saved) = rules::read_file(file) else {
         return "refused 10\n".to_string();
     };
-    let graph = Graph::new(n.into(), ends);
+    let graph = Graph::new(saved.nodes.into(), saved.ends);
     let mut colors = Lent::new(graph.m(), rules::lent_number);
     let report = misra_gries(&graph, &mut colors);
     let mut text = format!("{report}\n");
@@ -395,17 +454,18 @@ fn main() {
                 continue;
             }
             "read_graph_file" => {
-                let mut slice = words.lent();
+                let (mut ends, mut colors) = (words.lent(), words.lent());
                 words.end();
-                let report = match rules::read_file(&file) {
-                    None => Report::Refused(10),
-                    Some((_, ends)) if slice.now.len() < ends.len() => Report::Refused(5),
-                    Some((n, ends)) => {
-                        slice.now[..ends.len()].copy_from_slice(&ends);
-                        Report::File(n, ends.len() / 2)
-                    }
-                };
-                writeln!(out, "{name} {report}: {slice}").unwrap();
+                let report = read_graph_file(&file, &mut ends, &mut colors);
+                writeln!(out, "{name} {report}: {ends}; {colors}").unwrap();
+                continue;
+            }
+            "write_graph_file" => {
+                let (tags, method) = (words.number(), words.number());
+                let mut output = Lent::new(words.number(), rules::lent_byte);
+                words.end();
+                let report = write_graph_file(&graph, &presets, tags, method, &mut output);
+                writeln!(out, "{name} {report}: {output}").unwrap();
                 continue;
             }
             "matchdays" => {

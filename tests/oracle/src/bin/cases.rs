@@ -4,7 +4,7 @@
 
 use std::io::Write;
 
-use rustworkx_core::rules::{self, NONE};
+use rustworkx_core::rules::{self, field_bytes, Saved, COLORS_TOLD, METHOD_TOLD, NONE};
 use rustworkx_core::shapes::{
     bipartite, complete, cycle, flat, mixed, path, simple, star, Edges, Random,
 };
@@ -192,6 +192,12 @@ impl Block {
         );
     }
 
+    /// The presets are the colours that are handed to it.
+    fn write_file(&mut self, tags: u8, method: u8, output: usize) {
+        let text = format!("write_graph_file {tags} {method} {output}");
+        self.call(Family::File, true, text);
+    }
+
     /// Every call with the right lengths and no presets. A line list that is long is only asked with too little lent.
     fn every_call(&mut self) {
         let (n, m) = (self.n(), self.m());
@@ -221,6 +227,10 @@ impl Block {
         self.presets(vec![NONE; m]);
         self.edge_color_by(&[0, 1, 2], m);
         self.misra_gries(m);
+        // Nothing wrong beside the graph; a method above 3; tag 4 alone and no room.
+        self.write_file(12, 3, 15 + 6 * m);
+        self.write_file(12, 4, 15 + 6 * m);
+        self.write_file(8, 0, 0);
     }
 
     /// Every call with lengths that are wrong by one or more, either way.
@@ -891,19 +901,156 @@ fn random_graphs(blocks: &mut Vec<Block>) {
     }
 }
 
-/// A file, and how many numbers the reader and how many bytes the text are lent.
+/// A list, coloured at random and with a way named at random: loops, double edges, 65,535 among the colours.
+fn random_saved(random: &mut Random) -> Saved {
+    let nodes = [3, 12, 512][random.below(3)];
+    let m = random.below(13);
+    let colors = [2, 5, 512, 65535][random.below(4)];
+    let color = |random: &mut Random| match random.below(4) {
+        0 => NONE,
+        _ => random.below(colors) as u16,
+    };
+    Saved {
+        nodes: nodes as u16,
+        ends: (0..2 * m).map(|_| random.node(nodes)).collect(),
+        colors: Some((0..m).map(|_| color(random)).collect()),
+        method: Some(random.below(4) as u8),
+    }
+}
+
+/// 01's example, coloured by Misra-Gries.
+fn example_saved() -> Saved {
+    Saved {
+        nodes: 4,
+        ends: vec![0, 1, 1, 2, 0, 2, 2, 3],
+        colors: Some(vec![2, 1, 0, 2]),
+        method: Some(3),
+    }
+}
+
+/// The most edges, coloured.
+fn most_saved() -> Saved {
+    let edges = mixed(&mut Random(60_000), &bipartite(64, 64));
+    Saved {
+        nodes: 128,
+        ends: flat(&edges),
+        colors: Some((0..4096).map(|k| k % 67).collect()),
+        method: Some(3),
+    }
+}
+
+/// The writer: what is told, what is handed though it is not told, room that is short, and its checks in their order.
+fn writing(blocks: &mut Vec<Block>) {
+    let methods = [0, 1, 2, 3, 4, 255];
+    let tags: Vec<u8> = (0..16)
+        .chain([16, 20, 24, 28, 240, 243, 252, 255])
+        .collect();
+    let told = [0, COLORS_TOLD, METHOD_TOLD, COLORS_TOLD + METHOD_TOLD];
+
+    let example = example_saved();
+    let mut b = Block::new(4, &example.ends);
+    let longer = [2, 1, NONE, 65534, 7];
+    for colors in [&longer[..4], &longer[..3], &longer, &[]] {
+        b.presets(colors.to_vec());
+        for &tags in &tags {
+            for method in methods {
+                b.write_file(tags, method, 42);
+            }
+        }
+        // The files have 24, 35 and 39 bytes.
+        for tags in told {
+            for output in [0, 1, 23, 24, 25, 34, 35, 36, 38, 39, 40, 300] {
+                b.write_file(tags, 3, output);
+            }
+        }
+        // 10 and 5 are due.
+        b.write_file(12, 4, 0);
+        b.write_file(8, 3, 0);
+    }
+    blocks.push(b);
+
+    // No edges, and the least and the greatest ends; the files of the first have 8, 11 and 15 bytes.
+    for n in [0, 1, 511, 512] {
+        let mut b = Block::new(n, &[]);
+        for colors in 0..2 {
+            b.presets(vec![5; colors]);
+            for tags in told {
+                for output in [7, 8, 10, 11, 14, 15, 16] {
+                    b.write_file(tags, 0, output);
+                }
+            }
+        }
+        blocks.push(b);
+    }
+    for n in [1, 2, 256, 257, 512] {
+        let mut b = Block::new(n.into(), &[0, n - 1, n - 1, 0, n / 2, n - 1]);
+        b.presets(vec![255, 256, NONE]);
+        for tags in told {
+            b.write_file(tags, 2, 40);
+        }
+        blocks.push(b);
+    }
+
+    // The most edges: 16,392, 24,587 and 24,591 bytes. Room that is one short, just enough, one more.
+    let most = most_saved();
+    let colors = most.colors.unwrap();
+    let mut b = Block::new(128, &most.ends);
+    for length in [4096, 4095, 4097] {
+        let mut colors = colors.clone();
+        colors.resize(length, 1);
+        b.presets(colors);
+        b.write_file(12, 1, 24590);
+        b.write_file(12, 1, 24591);
+        b.write_file(4, 1, 24586);
+        if length == 4096 {
+            b.write_file(12, 1, 24592);
+            b.write_file(4, 1, 24587);
+            b.write_file(0, 1, 16391);
+        }
+        if length == 4097 {
+            b.write_file(0, 1, 16392);
+        }
+    }
+    blocks.push(b);
+
+    for i in 0..150 {
+        let random = &mut Random(61_000 + i);
+        let saved = random_saved(random);
+        let mut b = Block::new(saved.nodes.into(), &saved.ends);
+        let mut colors = saved.colors.clone().unwrap();
+        if i % 10 == 9 {
+            colors.push(0);
+        }
+        b.presets(colors);
+        let length = saved.bytes().len();
+        for tags in [12, random.below(256) as u8] {
+            b.write_file(tags, saved.method.unwrap(), length + random.below(4));
+        }
+        b.write_file(4, 255, length - random.below(6));
+        blocks.push(b);
+    }
+}
+
+/// A file, how many ends and colours the reader is lent, and how many bytes the text.
 struct FileCase {
     bytes: Vec<u8>,
-    lists: Vec<usize>,
+    lists: Vec<(usize, usize)>,
     texts: Vec<usize>,
 }
 
 impl FileCase {
-    /// As much as is needed.
+    /// Somewhat more than is needed.
     fn new(bytes: Vec<u8>) -> FileCase {
+        let lists = match rules::read_file(&bytes) {
+            Some(saved) => (
+                saved.ends.len() + 2,
+                saved.colors.map_or(1, |c| c.len() + 1),
+            ),
+            None => (8192, 4096),
+        };
         FileCase {
-            lists: vec![8192],
-            texts: vec![99000],
+            lists: vec![lists],
+            texts: vec![(100 + 5 * bytes.len()).min(99000)],
             bytes,
         }
     }
@@ -913,8 +1060,8 @@ impl FileCase {
 fn files(random: &mut Random) -> Vec<FileCase> {
     let example = rules::file_bytes(4, &[0, 1, 1, 2, 0, 2, 2, 3]);
     let mut cases = vec![FileCase {
-        // Too short by one, by all, just enough, too long.
-        lists: vec![8, 7, 0, 9, 8400],
+        // Ends too short by one, by all, just enough, too long; any colours.
+        lists: vec![(8, 0), (7, 4), (0, 4), (9, 1), (8400, 8400)],
         texts: vec![39, 38, 0, 1, 7, 12, 40, 99000],
         bytes: example.clone(),
     }];
@@ -982,7 +1129,7 @@ fn files(random: &mut Random) -> Vec<FileCase> {
     ] {
         add(rules::file_bytes(n, &ends));
     }
-    // The most edges, one more, and twice as many; a file of 16,393 bytes.
+    // The most edges, one more, and twice as many; the most edges and a byte.
     let most = flat(&mixed(random, &bipartite(64, 64)));
     add(rules::file_bytes(128, &most));
     add([&rules::file_bytes(128, &most)[..], &[0]].concat());
@@ -1000,6 +1147,182 @@ fn files(random: &mut Random) -> Vec<FileCase> {
     cases
 }
 
+/// Files with colours and a method, and each way in which these can be broken.
+fn saved_files() -> Vec<FileCase> {
+    let example = example_saved();
+    let all = example.bytes();
+    // The fields, and where the files with the first so many of them end.
+    let (first, rest) = all.split_at(5);
+    let (second, rest) = rest.split_at(19);
+    let (third, fourth) = rest.split_at(11);
+    let fields = [first, second, third, fourth];
+    let mut cases = Vec::new();
+    for length in [24, 35, 39] {
+        let lengths = [8, 7, 0, 9].map(|ends| [4, 3, 0, 5].map(|colors| (ends, colors)));
+        cases.push(FileCase {
+            lists: lengths.concat(),
+            texts: vec![39, 38, 100],
+            bytes: all[..length].to_vec(),
+        });
+    }
+    let mut add = |bytes: Vec<u8>| cases.push(FileCase::new(bytes));
+
+    // Cut at every place behind tag 2.
+    for length in 24..all.len() {
+        add(all[..length].to_vec());
+    }
+    // A byte too many, or a field.
+    for more in [
+        &[0][..],
+        &[3],
+        &[4],
+        &[4, 0, 0],
+        &[5, 0, 0],
+        &[0; 3],
+        &[1, 0, 0],
+    ] {
+        add([&all[..35], more].concat());
+        add([&all, more].concat());
+    }
+    // Every tag changed.
+    for place in [0, 5, 24, 35] {
+        for tag in [0, 1, 2, 3, 4, 5, 6, 128, 254, 255] {
+            let mut bytes = all.clone();
+            bytes[place] = tag;
+            add(bytes);
+        }
+    }
+    // Every length changed, the bytes being as they were, and being so many.
+    for (k, field) in fields.into_iter().enumerate() {
+        let right = field.len() - 3;
+        let other = [
+            0,
+            right - 1,
+            right + 1,
+            right.saturating_sub(2),
+            right + 2,
+            right.saturating_sub(4),
+            right + 4,
+            2 * right,
+            right + 256,
+            65535,
+        ];
+        for length in other {
+            let mut changed = field.to_vec();
+            changed[1..3].copy_from_slice(&(length as u16).to_le_bytes());
+            for resized in [false, true] {
+                if resized {
+                    changed.resize(3 + length.min(600), 0);
+                }
+                let mut parts = fields;
+                parts[k] = &changed;
+                add(parts.concat());
+            }
+        }
+        // The two bytes of the length exchanged.
+        let mut changed = field.to_vec();
+        changed.swap(1, 2);
+        let mut parts = fields;
+        parts[k] = &changed;
+        add(parts.concat());
+    }
+    // How it was coloured.
+    for method in (0..6).chain([7, 16, 127, 128, 131, 255]) {
+        let mut bytes = all.clone();
+        bytes[38] = method;
+        add(bytes);
+    }
+    // Every row of up to four fields, twice or out of order or missing, and a fifth in each place.
+    let mut rows = vec![Vec::new()];
+    let mut from = 0;
+    for _ in 0..4 {
+        let to = rows.len();
+        for row in from..to {
+            for field in fields {
+                let mut longer = rows[row].clone();
+                longer.push(field);
+                rows.push(longer);
+            }
+        }
+        from = to;
+    }
+    let unknown = [0, 5, 255].map(|tag| [0, 1, 8].map(|length| field_bytes(tag, &vec![0; length])));
+    let unknown = unknown.concat();
+    let fifth = unknown.iter().map(Vec::as_slice).chain(fields);
+    for more in fifth {
+        for place in 0..5 {
+            let mut row = fields.to_vec();
+            row.insert(place, more);
+            rows.push(row);
+        }
+    }
+    for row in rows {
+        add(row.concat());
+    }
+    // No edges; ends and colours that no list has, and graphs that the colouring refuses.
+    let none = NONE;
+    type Lists<'a> = &'a [(u16, &'a [u16], &'a [u16])];
+    let lists: Lists = &[
+        (0, &[], &[]),
+        (512, &[], &[]),
+        (513, &[0, 1], &[0]),
+        (65535, &[65535, 65535], &[none]),
+        (2, &[0, 1], &[none]),
+        (2, &[0, 2], &[65534]),
+        (3, &[0, 1, 1, 2, 2, 0], &[0, 0, 0]),
+        (3, &[0, 1, 1, 1], &[255, 256]),
+        (3, &[0, 1, 1, 0], &[60000, 1]),
+    ];
+    for &(nodes, ends, colors) in lists {
+        let saved = Saved {
+            nodes,
+            ends: ends.to_vec(),
+            colors: Some(colors.to_vec()),
+            method: Some(1),
+        };
+        let bytes = saved.bytes();
+        add(bytes[..bytes.len() - 4].to_vec());
+        add(bytes);
+    }
+    for i in 0..80 {
+        let mut saved = random_saved(&mut Random(62_000 + i));
+        if i % 4 == 0 {
+            saved.method = None;
+        }
+        add(saved.bytes());
+    }
+
+    // The longest file, with lists that are short by one, just enough, longer; a byte less and a byte more.
+    let most = most_saved();
+    let bytes = most.bytes();
+    assert_eq!(bytes.len(), rules::LONGEST_FILE);
+    cases.push(FileCase {
+        lists: vec![(8192, 4096), (8191, 4096), (8192, 4095), (8193, 4097)],
+        ..FileCase::new(bytes.clone())
+    });
+    let mut refused = |bytes: Vec<u8>| {
+        assert!(rules::read_file(&bytes).is_none());
+        cases.push(FileCase::new(bytes));
+    };
+    refused(bytes[..bytes.len() - 1].to_vec());
+    refused([&bytes[..], &[0]].concat());
+    // 4,097 edges with all tags; tags 1 and 2 alone with one and with many edges too many, shorter than the longest file.
+    let mut more = most.clone();
+    more.ends.extend([0, 1]);
+    more.colors.as_mut().unwrap().push(0);
+    refused(more.bytes());
+    refused(rules::file_bytes(128, &more.ends));
+    more.ends.resize(2 * 6145, 0);
+    refused(rules::file_bytes(128, &more.ends));
+    // Tag 3 where the edges are the most.
+    let colors = Saved {
+        method: None,
+        ..most
+    };
+    cases.push(FileCase::new(colors.bytes()));
+    cases
+}
+
 fn main() {
     let chosen: Vec<Family> = std::env::args()
         .skip(1)
@@ -1014,6 +1337,7 @@ fn main() {
     presets_by_hand(&mut blocks);
     loops_and_doubles(&mut blocks);
     random_graphs(&mut blocks);
+    writing(&mut blocks);
 
     let mut out = std::io::BufWriter::new(std::io::stdout().lock());
     for block in &blocks {
@@ -1042,10 +1366,10 @@ fn main() {
         }
     }
     if chosen.contains(&Family::File) {
-        for case in files(random) {
+        for case in files(random).into_iter().chain(saved_files()) {
             writeln!(out, "file {}", words(&case.bytes)).unwrap();
-            for length in case.lists {
-                writeln!(out, "read_graph_file {length}").unwrap();
+            for (ends, colors) in case.lists {
+                writeln!(out, "read_graph_file {ends} {colors}").unwrap();
             }
             for length in case.texts {
                 writeln!(out, "matchdays {length}").unwrap();

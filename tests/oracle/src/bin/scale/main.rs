@@ -1,8 +1,9 @@
-//! Puts the same inputs through the Rust and through the port, counts cases and differences, and ends with 1 if there is
-//! any difference; README.md says what is compared.
+//! Puts the same inputs through the Rust, or where it has no such call through what rules.rs has, and through the port,
+//! counts cases and differences, and ends with 1 if there is any difference; README.md says what is compared.
 
 mod choices;
 mod exhaustive;
+mod files;
 mod models;
 mod port;
 mod published;
@@ -15,11 +16,12 @@ use std::process::ExitCode;
 
 use tally::Tally;
 
-const PARTS: [(&str, fn(&mut Tally)); 4] = [
+const PARTS: [(&str, fn(&mut Tally)); 5] = [
     ("exhaustive", exhaustive::run),
     ("refusals", refusals::run),
     ("choices", choices::run),
     ("random", random::run),
+    ("files", files::run),
 ];
 
 fn main() -> ExitCode {
@@ -28,7 +30,7 @@ fn main() -> ExitCode {
         .iter()
         .find(|word| PARTS.iter().all(|(name, _)| name != word))
     {
-        eprintln!("no part {word:?}: exhaustive, refusals, choices or random");
+        eprintln!("no part {word:?}: exhaustive, refusals, choices, random or files");
         return ExitCode::from(2);
     }
     models::check();

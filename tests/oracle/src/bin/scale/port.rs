@@ -3,7 +3,7 @@
 
 use rustworkx_core::rules;
 
-use crate::question::{Call, Outcome, Question, REPORT_BEFORE};
+use crate::question::{Call, FileRead, Outcome, Question, Writing, Written, REPORT_BEFORE};
 
 // The prototypes are those of the Rust crate at the repository's root, which has more calls than are asked here.
 #[allow(dead_code)]
@@ -54,10 +54,14 @@ fn lent_numbers(length: usize) -> Guarded<u16> {
     Guarded::new(0xa5a5, (0..length).map(rules::lent_number))
 }
 
+fn lent_bytes(length: usize) -> Guarded<u8> {
+    Guarded::new(0xa5, (0..length).map(rules::lent_byte))
+}
+
 /// two_color's colours are bytes; otherwise as `ask`.
 fn ask_two_color(n: usize, ends: &[u16], length: usize) -> Outcome {
     let mut handed_ends = numbers(ends);
-    let mut handed_colors = Guarded::new(0xa5, (0..length).map(rules::lent_byte));
+    let mut handed_colors = lent_bytes(length);
     let mut report = REPORT_BEFORE;
     // SAFETY: every pointer comes with the length of its slice, and no two slices overlap.
     let code = unsafe {
@@ -147,5 +151,70 @@ pub fn ask(n: usize, ends: &[u16], question: Question) -> Outcome {
         wrote_elsewhere: handed.ends.slice() != ends
             || handed.presets.slice() != question.presets
             || margins.iter().any(|slice| slice.margins_changed()),
+    }
+}
+
+/// Has the port read a file into so many ends and colours.
+pub fn read_file(bytes: &[u8], ends: usize, colors: usize) -> FileRead {
+    let mut handed = Guarded::new(0xa5, bytes.iter().copied());
+    let (mut lent_ends, mut lent_colors) = (lent_numbers(ends), lent_numbers(colors));
+    let mut report = [REPORT_BEFORE; 4];
+    let [nodes, edges, tags, method] = &mut report;
+    // SAFETY: every pointer comes with the length of its slice, and no two slices overlap.
+    let code = unsafe {
+        ffi::wg_read_graph_file(
+            handed.pointer(),
+            bytes.len(),
+            lent_ends.pointer(),
+            ends,
+            lent_colors.pointer(),
+            colors,
+            nodes,
+            edges,
+            tags,
+            method,
+        )
+    };
+    FileRead {
+        code,
+        report,
+        ends: lent_ends.slice().to_vec(),
+        colors: lent_colors.slice().to_vec(),
+        wrote_elsewhere: handed.slice() != bytes
+            || handed.margins_changed()
+            || lent_ends.margins_changed()
+            || lent_colors.margins_changed(),
+    }
+}
+
+/// Has the port write a file.
+pub fn write_file(writing: &Writing) -> Written {
+    let (mut ends, mut colors) = (numbers(&writing.ends), numbers(&writing.colors));
+    let mut output = lent_bytes(writing.output);
+    let mut length = REPORT_BEFORE;
+    // SAFETY: every pointer comes with the length of its slice, and no two slices overlap.
+    let code = unsafe {
+        ffi::wg_write_graph_file(
+            writing.n,
+            ends.pointer(),
+            ends.len(),
+            colors.pointer(),
+            colors.len(),
+            writing.tags,
+            writing.method,
+            output.pointer(),
+            writing.output,
+            &mut length,
+        )
+    };
+    Written {
+        code,
+        length,
+        output: output.slice().to_vec(),
+        wrote_elsewhere: ends.slice() != writing.ends
+            || colors.slice() != writing.colors
+            || ends.margins_changed()
+            || colors.margins_changed()
+            || output.margins_changed(),
     }
 }

@@ -74,3 +74,39 @@ pub struct Outcome {
     /// Whether anything was written that was not lent for writing.
     pub wrote_elsewhere: bool,
 }
+
+/// What the file calls are counted under.
+pub const READ: &str = "read_graph_file";
+pub const WRITE: &str = "write_graph_file";
+
+/// All that the writer is handed.
+#[derive(Clone, Debug)]
+pub struct Writing {
+    pub n: usize,
+    pub ends: Vec<u16>,
+    pub colors: Vec<u16>,
+    pub tags: u8,
+    pub method: u8,
+    /// How many bytes are lent.
+    pub output: usize,
+}
+
+/// All that can be seen of the writer afterwards.
+#[derive(Clone, Debug, PartialEq)]
+pub struct Written {
+    pub code: u32,
+    pub length: usize,
+    pub output: Vec<u8>,
+    pub wrote_elsewhere: bool,
+}
+
+/// All that can be seen of the reader afterwards.
+#[derive(Clone, Debug, PartialEq)]
+pub struct FileRead {
+    pub code: u32,
+    /// Nodes, edges, tags, method.
+    pub report: [usize; 4],
+    pub ends: Vec<u16>,
+    pub colors: Vec<u16>,
+    pub wrote_elsewhere: bool,
+}

@@ -73,7 +73,7 @@ fn ask(tally: &mut Tally, graph: &Graph, call: Call, lengths: Lengths) {
 }
 
 /// Lengths that are off by one or more, either way.
-fn around(right: usize) -> Vec<usize> {
+pub fn around(right: usize) -> Vec<usize> {
     let mut lengths = vec![
         right,
         right + 1,
@@ -249,7 +249,7 @@ fn check_all_seen(tally: &Tally) {
         for &number in [1, 2, 3, 4].iter().chain(own_numbers(call)) {
             let name = call.name();
             assert!(
-                tally.was_refused(call, number),
+                tally.was_refused(name, number),
                 "{name}: {number} was never due"
             );
         }

@@ -50,14 +50,25 @@ impl Tally {
         presets: &[u16],
         answers: impl FnOnce() -> String,
     ) {
+        self.count_case(name, differs, || {
+            let (n, ends) = (graph.n, shortened(&graph.ends));
+            let presets = shortened(presets);
+            format!("n {n}, ends {ends}, presets {presets}\n{}", answers())
+        });
+    }
+
+    /// The same of any case, which is printed as given.
+    pub fn count_case(&mut self, name: &'static str, differs: bool, case: impl FnOnce() -> String) {
         self.part.add(differs);
         self.calls.entry(name).or_default().add(differs);
         if differs && self.part.differences <= SHOWN {
-            let (n, ends) = (graph.n, shortened(&graph.ends));
-            let presets = shortened(presets);
-            println!("difference in {name}: n {n}, ends {ends}, presets {presets}");
-            println!("{}", answers());
+            println!("difference in {name}: {}", case());
         }
+    }
+
+    /// Counts a refusal that was due.
+    pub fn refused(&mut self, name: &'static str, number: u32) {
+        *self.refusals.entry((name, number)).or_default() += 1;
     }
 
     /// Puts the question to the Rust and to the port.
@@ -66,7 +77,7 @@ impl Tally {
         let expected = published::answer(graph, question);
         let found = port::ask(graph.n, &graph.ends, question);
         if expected.code != 0 {
-            *self.refusals.entry((name, expected.code)).or_default() += 1;
+            self.refused(name, expected.code);
         }
         self.count(name, expected != found, graph, question.presets, || {
             let (lent, entries) = (question.lent, question.entries);
@@ -143,8 +154,8 @@ impl Tally {
         differences == 0
     }
 
-    pub fn was_refused(&self, call: Call, number: u32) -> bool {
-        self.refusals.contains_key(&(call.name(), number))
+    pub fn was_refused(&self, name: &'static str, number: u32) -> bool {
+        self.refusals.contains_key(&(name, number))
     }
 }
 
@@ -159,7 +170,7 @@ pub fn presets_question(call: Call, presets: &[u16]) -> Question<'_> {
 }
 
 /// A list as it is printed; a long one is cut.
-fn shortened<T: Debug>(list: &[T]) -> String {
+pub fn shortened<T: Debug>(list: &[T]) -> String {
     const MOST: usize = 200;
     if list.len() > MOST {
         format!("{:?} .. ({} numbers)", &list[..MOST], list.len())
