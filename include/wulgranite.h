@@ -28,8 +28,8 @@ extern "C" {
 enum {
     WG_MAX_NODES = 512,
     WG_MAX_EDGES = 4096,
-    WG_MAX_FILE = 16392,
-    WG_NONE = 65535 /* in a list of presets: none */
+    WG_MAX_FILE = 24591,
+    WG_NONE = 65535 /* in a list of presets or of colours: none */
 };
 
 /* What a call returns. */
@@ -44,7 +44,7 @@ enum {
     WG_DOUBLE_EDGE = 7,      /* two edges join the same nodes */
     WG_ODD_CLOSED_WALK = 8,  /* two colours do not suffice */
     WG_SHORT_LIST = 9,       /* the lent list is too short for the pairs */
-    WG_BAD_FILE = 10,        /* the bytes are no graph file */
+    WG_BAD_FILE = 10,        /* the bytes are no graph file, or what is told does not make one */
     WG_UNKNOWN_STRATEGY = 255
 };
 
@@ -53,6 +53,23 @@ enum {
     WG_DEGREE = 0,
     WG_SATURATION = 1,
     WG_INDEPENDENT_SET = 2
+};
+
+/* The fields of a graph file: bit t - 1 for tag t. */
+enum {
+    WG_TAG_NODES = 1,
+    WG_TAG_ENDS = 2,
+    WG_TAG_COLORS = 4,
+    WG_TAG_METHOD = 8
+};
+
+/* How the list in a graph file was coloured. */
+enum {
+    WG_METHOD_DEGREE = 0,
+    WG_METHOD_SATURATION = 1,
+    WG_METHOD_INDEPENDENT_SET = 2,
+    WG_METHOD_MISRA_GRIES = 3,
+    WG_METHOD_UNNAMED = 255 /* the file does not say */
 };
 
 /*
@@ -129,15 +146,32 @@ uint32_t wg_line_graph(size_t n, const uint16_t *ends, size_t ends_len, uint16_t
 uint32_t wg_misra_gries_edge_color(size_t n, const uint16_t *ends, size_t ends_len, uint16_t *colors, size_t colors_len, size_t *days);
 
 /*
- * Reads a graph file: *nodes and *edges are its counts, bit t - 1 of *tags is set where tag t stood, and the ends go to the front of
- * ends, two for each edge; numbers beyond stay. Neither the node count nor the ends are tested: the other calls do that.
- * A file has at most 16,392 bytes, numbers of two bytes low byte first: tag 1, the length 2, n; then tag 2, the length of 4 for each
- * edge, the ends; then the end.
- * Refuses by 10 where the bytes have another layout; 5 if ends_len is less than two for each edge.
- * On a refusal ends, *nodes, *edges and *tags are unchanged.
+ * Reads a graph file: *nodes and *edges are its counts, bit t - 1 of *tags is set where tag t stood, and *method is tag 4's byte, or
+ * WG_METHOD_UNNAMED where it did not stand. The ends go to the front of ends, two for each edge, and where tag 3 stood the colours to
+ * the front of colors, one for each edge; numbers beyond stay. The node count, the ends and the colours are not tested: the other
+ * calls do that.
+ * A file has at most WG_MAX_FILE bytes, numbers of two bytes low byte first: tag 1, the length 2, n; then tag 2, the length of 4 for
+ * each edge, the ends of at most WG_MAX_EDGES edges; then, if it has colours, tag 3, the length of 2 for each edge, the colours,
+ * WG_NONE for none; behind them, if it says how they came about, tag 4, the length 1, one of the methods above; then the end.
+ * Refuses by 10 where the bytes have another layout; 5 if ends_len is less than two for each edge, or colors_len less than the number
+ * of colours in the file.
+ * On a refusal ends, colors, *nodes, *edges, *tags and *method are unchanged.
  */
 uint32_t wg_read_graph_file(const uint8_t *bytes, size_t bytes_len, uint16_t *ends, size_t ends_len,
-                      size_t *nodes, size_t *edges, size_t *tags);
+                      uint16_t *colors, size_t colors_len, size_t *nodes, size_t *edges, size_t *tags, size_t *method);
+
+/*
+ * Writes a graph file to the front of output: the graph, with WG_TAG_COLORS in tags the colours, and with WG_TAG_METHOD too the
+ * method. *length is the number of its bytes; those beyond stay. The other bits of tags are not looked at, so those that a reading
+ * gave can be handed on; colours and a method that are not told are not looked at either. WG_MAX_FILE bytes are enough for every file.
+ * Reading them gives the same n, ends, colours and method again; and a file that was read, written with its own tags and method, has
+ * the same bytes again, unless its graph is refused.
+ * Refuses by 1, 2, 3, 4; 10 where the method is told and is above 3, or the colours are not told with it; 5 if the colours are told and
+ * colors_len is not the number of edges, or output_len is less than the file.
+ * On a refusal output and *length are unchanged.
+ */
+uint32_t wg_write_graph_file(size_t n, const uint16_t *ends, size_t ends_len, const uint16_t *colors, size_t colors_len,
+                      uint8_t tags, uint8_t method, uint8_t *output, size_t output_len, size_t *length);
 
 #ifdef __cplusplus
 }

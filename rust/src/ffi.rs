@@ -88,8 +88,23 @@ extern "C" {
         bytes_len: usize,
         ends: *mut u16,
         ends_len: usize,
+        colors: *mut u16,
+        colors_len: usize,
         nodes: *mut usize,
         edges: *mut usize,
         tags: *mut usize,
+        method: *mut usize,
+    ) -> u32;
+    pub fn wg_write_graph_file(
+        n: usize,
+        ends: *const u16,
+        ends_len: usize,
+        colors: *const u16,
+        colors_len: usize,
+        tags: u8,
+        method: u8,
+        output: *mut u8,
+        output_len: usize,
+        length: *mut usize,
     ) -> u32;
 }

@@ -26,7 +26,7 @@ pub const MAX_NODES: usize = 512;
 pub const MAX_EDGES: usize = 4096;
 
 /// The longest house file in bytes.
-pub const MAX_FILE: usize = 16392;
+pub const MAX_FILE: usize = 24591;
 
 /// What is wrong with an input.
 #[derive(Clone, Copy, Debug, PartialEq, Eq, Hash)]
@@ -49,7 +49,7 @@ pub enum Refusal {
     OddClosedWalk = 8,
     /// 9: the lent list is too short for the pairs.
     ShortList = 9,
-    /// 10: the bytes are no house file.
+    /// 10: the bytes are no house file, or what is told doesn't make one.
     BadFile = 10,
 }
 
@@ -92,7 +92,7 @@ impl fmt::Display for Refusal {
             Refusal::DoubleEdge => "two edges have the same ends",
             Refusal::OddClosedWalk => "a closed walk of odd length exists",
             Refusal::ShortList => "the lent list is too short for the pairs",
-            Refusal::BadFile => "the bytes are no house file",
+            Refusal::BadFile => "the bytes are no house file, or what is told doesn't make one",
         };
         write!(f, "refused {}: {why}", self.number())
     }
@@ -381,7 +381,37 @@ pub fn misra_gries_edge_color(
     answer(number, days)
 }
 
-/// What a house file holds besides its ends.
+/// The bits of tags 3 and 4, and what stands for the method where none is named.
+const TAG_COLORS: usize = 4;
+const TAG_METHOD: usize = 8;
+const UNNAMED: u8 = 255;
+
+/// How a saved list was coloured.
+#[derive(Clone, Copy, Debug, PartialEq, Eq, Hash)]
+pub enum Method {
+    /// Greedily, by [`ColoringStrategy::Degree`].
+    Degree = 0,
+    /// Greedily, by [`ColoringStrategy::Saturation`].
+    Saturation = 1,
+    /// Greedily, by [`ColoringStrategy::IndependentSet`].
+    IndependentSet = 2,
+    /// By [`misra_gries_edge_color`].
+    MisraGries = 3,
+}
+
+impl Method {
+    fn of(number: usize) -> Option<Method> {
+        match number {
+            0 => Some(Method::Degree),
+            1 => Some(Method::Saturation),
+            2 => Some(Method::IndependentSet),
+            3 => Some(Method::MisraGries),
+            _ => None,
+        }
+    }
+}
+
+/// What a house file holds besides its ends and colours.
 #[derive(Clone, Copy, Debug, PartialEq, Eq, Hash)]
 pub struct GraphFile {
     /// The node count, not tested.
@@ -390,24 +420,40 @@ pub struct GraphFile {
     pub edges: usize,
     /// Bit t - 1 is set where tag t stood.
     pub tags: usize,
+    /// How it was coloured, where tag 4 stood.
+    pub method: Option<Method>,
 }
 
-/// Reads a house file and copies its ends, which are not tested; numbers beyond them are unchanged.
+impl GraphFile {
+    /// Whether tag 3 stood, so that the file has colours.
+    pub fn has_colors(&self) -> bool {
+        self.tags & TAG_COLORS != 0
+    }
+}
+
+/// Reads a house file. Its ends are copied to the front of `ends` and its colours, if it has any, to the front of
+/// `colors`; numbers beyond them are unchanged. Neither is tested; a colour of [`NONE`] is none.
 ///
 /// ```
-/// use wulgranite::{read_graph_file, GraphFile, Refusal};
-/// let mut ends = [0; 8192];
-/// let file = [1, 2, 0, 3, 0, 2, 4, 0, 1, 0, 2, 0];
-/// assert_eq!(read_graph_file(&file, &mut ends), Ok(GraphFile { nodes: 3, edges: 1, tags: 3 }));
+/// use wulgranite::{read_graph_file, GraphFile, Method, Refusal};
+/// let (mut ends, mut colors) = ([0; 8192], [0; 4096]);
+/// let list = [1, 2, 0, 3, 0, 2, 4, 0, 1, 0, 2, 0];
+/// let read = GraphFile { nodes: 3, edges: 1, tags: 3, method: None };
+/// assert_eq!(read_graph_file(&list, &mut ends, &mut colors), Ok(read));
 /// assert_eq!(ends[..2], [1, 2]);
-/// assert_eq!(read_graph_file(&[], &mut ends), Err(Refusal::BadFile));
+/// // The same with the colour 5, found by Misra and Gries.
+/// let saved = [1, 2, 0, 3, 0, 2, 4, 0, 1, 0, 2, 0, 3, 2, 0, 5, 0, 4, 1, 0, 3];
+/// let read = GraphFile { nodes: 3, edges: 1, tags: 15, method: Some(Method::MisraGries) };
+/// assert_eq!(read_graph_file(&saved, &mut ends, &mut colors), Ok(read));
+/// assert_eq!(colors[0], 5);
+/// assert_eq!(read_graph_file(&[], &mut ends, &mut colors), Err(Refusal::BadFile));
 /// ```
-pub fn read_graph_file(bytes: &[u8], ends: &mut [u16]) -> Result<GraphFile, Refusal> {
-    let mut file = GraphFile {
-        nodes: 0,
-        edges: 0,
-        tags: 0,
-    };
+pub fn read_graph_file(
+    bytes: &[u8],
+    ends: &mut [u16],
+    colors: &mut [u16],
+) -> Result<GraphFile, Refusal> {
+    let (mut nodes, mut edges, mut tags, mut method) = (0, 0, 0, 0);
     // SAFETY: as above.
     let number = unsafe {
         ffi::wg_read_graph_file(
@@ -415,10 +461,112 @@ pub fn read_graph_file(bytes: &[u8], ends: &mut [u16]) -> Result<GraphFile, Refu
             bytes.len(),
             ends.as_mut_ptr(),
             ends.len(),
-            &mut file.nodes,
-            &mut file.edges,
-            &mut file.tags,
+            colors.as_mut_ptr(),
+            colors.len(),
+            &mut nodes,
+            &mut edges,
+            &mut tags,
+            &mut method,
         )
     };
+    let file = GraphFile {
+        nodes,
+        edges,
+        tags,
+        method: Method::of(method),
+    };
     answer(number, file)
+}
+
+/// Writes a house file to the front of `output`: the graph, its colours if there are any, and how it was coloured, which
+/// only goes with colours. The answer is the number of bytes, at most [`MAX_FILE`]; those beyond are unchanged. Reading
+/// them gives the same again, and a file that was read has the same bytes again, unless its graph is refused.
+///
+/// ```
+/// use wulgranite::{write_graph_file, Method, Refusal};
+/// let mut bytes = [0; 21];
+/// let method = Some(Method::MisraGries);
+/// assert_eq!(write_graph_file(3, &[1, 2], Some(&[5]), method, &mut bytes), Ok(21));
+/// assert_eq!(bytes, [1, 2, 0, 3, 0, 2, 4, 0, 1, 0, 2, 0, 3, 2, 0, 5, 0, 4, 1, 0, 3]);
+/// assert_eq!(write_graph_file(3, &[1, 2], None, method, &mut bytes), Err(Refusal::BadFile));
+/// ```
+pub fn write_graph_file(
+    n: usize,
+    ends: &[u16],
+    colors: Option<&[u16]>,
+    method: Option<Method>,
+    output: &mut [u8],
+) -> Result<usize, Refusal> {
+    let tags = colors.map_or(0, |_| TAG_COLORS) + method.map_or(0, |_| TAG_METHOD);
+    let colors = colors.unwrap_or(&[]);
+    let mut length = 0;
+    // SAFETY: as above.
+    let number = unsafe {
+        ffi::wg_write_graph_file(
+            n,
+            ends.as_ptr(),
+            ends.len(),
+            colors.as_ptr(),
+            colors.len(),
+            tags as u8,
+            method.map_or(UNNAMED, |known| known as u8),
+            output.as_mut_ptr(),
+            output.len(),
+            &mut length,
+        )
+    };
+    answer(number, length)
+}
+
+/// A house file's contents, with memory of its own.
+///
+/// ```
+/// use wulgranite::{misra_gries_edge_color, Method, Saved};
+/// // Four clubs, four matches, no days yet.
+/// let list = [1, 2, 0, 4, 0, 2, 16, 0, 0, 0, 1, 0, 1, 0, 2, 0, 0, 0, 2, 0, 2, 0, 3, 0];
+/// let mut saved = Saved::read(&list)?;
+/// let mut days = vec![0; saved.ends.len() / 2];
+/// misra_gries_edge_color(saved.nodes, &saved.ends, &mut days)?;
+/// saved.colors = Some(days);
+/// saved.method = Some(Method::MisraGries);
+/// assert_eq!(Saved::read(&saved.write()?), Ok(saved));
+/// # Ok::<(), wulgranite::Refusal>(())
+/// ```
+#[derive(Clone, Debug, PartialEq, Eq, Hash)]
+pub struct Saved {
+    /// The node count, not tested.
+    pub nodes: usize,
+    /// Two ends for each edge, not tested.
+    pub ends: Vec<u16>,
+    /// A colour for each edge, or [`NONE`]; not tested.
+    pub colors: Option<Vec<u16>>,
+    /// How it was coloured; only beside colours.
+    pub method: Option<Method>,
+}
+
+impl Saved {
+    /// Reads a house file, or refuses by [`Refusal::BadFile`].
+    pub fn read(bytes: &[u8]) -> Result<Saved, Refusal> {
+        let mut ends = vec![0; 2 * MAX_EDGES];
+        let mut colors = vec![0; MAX_EDGES];
+        let file = read_graph_file(bytes, &mut ends, &mut colors)?;
+        ends.truncate(2 * file.edges);
+        colors.truncate(file.edges);
+        Ok(Saved {
+            nodes: file.nodes,
+            ends,
+            colors: file.has_colors().then_some(colors),
+            method: file.method,
+        })
+    }
+
+    /// The bytes of the house file. Refuses where the graph checks do, by [`Refusal::BadFile`] where there is a method and no
+    /// colours, and by [`Refusal::WrongLength`] where there is not one colour for each edge.
+    pub fn write(&self) -> Result<Vec<u8>, Refusal> {
+        let mut bytes = vec![0; MAX_FILE];
+        let colors = self.colors.as_deref();
+        let length = write_graph_file(self.nodes, &self.ends, colors, self.method, &mut bytes)?;
+        bytes.truncate(length);
+        Ok(bytes)
+    }
 }

@@ -146,30 +146,211 @@ fn no_club_twice_on_a_day() {
     }
 }
 
+/// The list of `TAIL`.
+const LIST: [u8; 24] = [
+    1, 2, 0, 4, 0, 2, 16, 0, 0, 0, 1, 0, 1, 0, 2, 0, 0, 0, 2, 0, 2, 0, 3, 0,
+];
+
+/// The fields of its colours and of the method.
+const COLORS: [u8; 11] = [3, 8, 0, 2, 0, 1, 0, 255, 255, 0, 1];
+const METHOD: [u8; 4] = [4, 1, 0, 3];
+
+fn bad(bytes: &[u8]) {
+    let (mut ends, mut colors) = ([9; 10], [9; 10]);
+    assert_eq!(
+        read_graph_file(bytes, &mut ends, &mut colors),
+        Err(Refusal::BadFile)
+    );
+    assert_eq!((ends, colors), ([9; 10], [9; 10]));
+}
+
 #[test]
 fn house_file() {
-    let file = [
-        1, 2, 0, 4, 0, 2, 16, 0, 0, 0, 1, 0, 1, 0, 2, 0, 0, 0, 2, 0, 2, 0, 3, 0,
-    ];
-    let mut ends = [9; 10];
+    let (mut ends, mut colors) = ([9; 10], [9; 6]);
     let read = GraphFile {
         nodes: 4,
         edges: 4,
         tags: 3,
+        method: None,
     };
     assert_eq!(
-        read_graph_file(&file, &mut ends[..7]),
+        read_graph_file(&LIST, &mut ends[..7], &mut colors),
         Err(Refusal::WrongLength)
     );
-    for cut in 0..file.len() {
-        assert_eq!(
-            read_graph_file(&file[..cut], &mut ends),
-            Err(Refusal::BadFile)
-        );
+    for cut in 0..LIST.len() {
+        bad(&LIST[..cut]);
     }
     assert_eq!(ends, [9; 10]);
-    assert_eq!(read_graph_file(&file, &mut ends), Ok(read));
+    // Without colours in the file none are lent.
+    assert_eq!(read_graph_file(&LIST, &mut ends, &mut []), Ok(read));
     assert_eq!(ends, [0, 1, 1, 2, 0, 2, 2, 3, 9, 9]);
+    assert_eq!(read_graph_file(&LIST, &mut ends, &mut colors), Ok(read));
+    assert_eq!(colors, [9; 6]);
+    assert!(!read.has_colors());
+}
+
+#[test]
+fn saved_colors() {
+    let (mut ends, mut colors) = ([9; 10], [9; 6]);
+    let colored = [&LIST[..], &COLORS].concat();
+    let named = [&colored[..], &METHOD].concat();
+    assert_eq!(
+        read_graph_file(&named, &mut ends[..7], &mut colors),
+        Err(Refusal::WrongLength)
+    );
+    assert_eq!(
+        read_graph_file(&named, &mut ends, &mut colors[..3]),
+        Err(Refusal::WrongLength)
+    );
+    assert_eq!((ends, colors), ([9; 10], [9; 6]));
+    for (bytes, tags, method) in [(&colored, 7, None), (&named, 15, Some(Method::MisraGries))] {
+        let read = read_graph_file(bytes, &mut ends, &mut colors).unwrap();
+        assert_eq!((read.nodes, read.edges), (4, 4));
+        assert_eq!((read.tags, read.method), (tags, method));
+        assert!(read.has_colors());
+        assert_eq!(ends, [0, 1, 1, 2, 0, 2, 2, 3, 9, 9]);
+        assert_eq!(colors, [2, 1, NONE, 256, 9, 9]);
+        (ends, colors) = ([9; 10], [9; 6]);
+    }
+}
+
+#[test]
+fn no_house_file() {
+    let named = [&LIST[..], &COLORS, &METHOD].concat();
+    for cut in 1..named.len() {
+        if cut != LIST.len() && cut != LIST.len() + COLORS.len() {
+            bad(&named[..cut]);
+        }
+    }
+    // A method above 3, a method without colours, colours twice, a method twice, a byte behind the end.
+    for method in 4..=255 {
+        bad(&[&LIST[..], &COLORS, &[4, 1, 0, method]].concat());
+    }
+    bad(&[&LIST[..], &METHOD].concat());
+    bad(&[&LIST[..], &COLORS, &COLORS].concat());
+    bad(&[&named[..], &METHOD].concat());
+    bad(&[&named[..], &[0]].concat());
+    // A colour too few, a colour too many, half a colour.
+    bad(&[&LIST[..], &[3, 6, 0, 2, 0, 1, 0, 0, 0]].concat());
+    bad(&[&LIST[..], &[3, 10, 0, 2, 0, 1, 0, 0, 0, 2, 0, 4, 0]].concat());
+    bad(&[&LIST[..], &[3, 7, 0, 2, 0, 1, 0, 0, 0, 2]].concat());
+    // 4,097 edges.
+    let mut long = vec![1, 2, 0, 4, 0, 2, 4, 64];
+    long.resize(8 + 4 * 4097, 0);
+    bad(&long);
+}
+
+#[test]
+fn written_file() {
+    let colored = [&LIST[..], &COLORS].concat();
+    let named = [&colored[..], &METHOD].concat();
+    let colors = [2, 1, NONE, 256];
+    for (bytes, colors, method) in [
+        (&LIST.to_vec(), None, None),
+        (&colored, Some(&colors[..]), None),
+        (&named, Some(&colors[..]), Some(Method::MisraGries)),
+    ] {
+        let mut output = [9; 50];
+        assert_eq!(
+            write_graph_file(4, &TAIL, colors, method, &mut output[..bytes.len() - 1]),
+            Err(Refusal::WrongLength)
+        );
+        assert_eq!(output, [9; 50]);
+        assert_eq!(
+            write_graph_file(4, &TAIL, colors, method, &mut output),
+            Ok(bytes.len())
+        );
+        assert_eq!(output[..bytes.len()], bytes[..]);
+        assert!(output[bytes.len()..].iter().all(|&byte| byte == 9));
+    }
+}
+
+#[test]
+fn nothing_written() {
+    let mut output = vec![9; MAX_FILE];
+    let method = Some(Method::Degree);
+    for (n, ends, colors, method, refusal) in [
+        (513, &[][..], None, None, Refusal::TooManyNodes),
+        (3, &[0], None, None, Refusal::OddEnds),
+        (2, &[0; 8194], None, None, Refusal::TooManyEnds),
+        // The graph comes before the method,
+        (3, &[0, 3], None, method, Refusal::EndOutside),
+        (3, &[0, 2], None, method, Refusal::BadFile),
+        (3, &[0, 2], Some(&[][..]), method, Refusal::WrongLength),
+        (3, &[0, 2], Some(&[0, 1]), None, Refusal::WrongLength),
+    ] {
+        assert_eq!(
+            write_graph_file(n, ends, colors, method, &mut output),
+            Err(refusal)
+        );
+    }
+    // and the method before the lengths.
+    assert_eq!(
+        write_graph_file(3, &[0, 2], None, method, &mut []),
+        Err(Refusal::BadFile)
+    );
+    assert!(output.iter().all(|&byte| byte == 9));
+}
+
+#[test]
+fn written_and_read_again() {
+    for method in [
+        None,
+        Some(Method::Degree),
+        Some(Method::Saturation),
+        Some(Method::IndependentSet),
+        Some(Method::MisraGries),
+    ] {
+        let saved = Saved {
+            nodes: 4,
+            ends: TAIL.to_vec(),
+            colors: Some(vec![2, 1, NONE, 256]),
+            method,
+        };
+        let bytes = saved.write().unwrap();
+        let read = Saved::read(&bytes).unwrap();
+        assert_eq!(read.write().as_ref(), Ok(&bytes));
+        assert_eq!(read, saved);
+    }
+    let list = Saved::read(&LIST).unwrap();
+    assert_eq!((list.nodes, &list.ends[..]), (4, &TAIL[..]));
+    assert_eq!((&list.colors, list.method), (&None, None));
+    assert_eq!(list.write().unwrap(), LIST);
+    // No matches, with and without colours.
+    let none = [1, 2, 0, 0, 0, 2, 0, 0, 3, 0, 0];
+    assert_eq!(Saved::read(&none).unwrap().colors, Some(vec![]));
+    assert_eq!(Saved::read(&none).unwrap().write().unwrap(), none);
+    assert_eq!(Saved::read(&none[..8]).unwrap().colors, None);
+    // The reader tests neither nodes nor ends, the writer does.
+    let outside = [1, 2, 0, 1, 2, 2, 4, 0, 7, 0, 255, 255];
+    assert_eq!(
+        Saved::read(&outside).unwrap().write(),
+        Err(Refusal::TooManyNodes)
+    );
+}
+
+#[test]
+fn six_clubs() {
+    let mut list = Saved::read(include_bytes!("../../examples/six-clubs.file")).unwrap();
+    let mut days = vec![0; list.ends.len() / 2];
+    assert_eq!(misra_gries_edge_color(6, &list.ends, &mut days), Ok(6));
+    list.colors = Some(days);
+    list.method = Some(Method::MisraGries);
+    let saved = include_bytes!("../../examples/six-clubs-saved.file");
+    assert_eq!(list.write().unwrap(), saved);
+}
+
+#[test]
+fn longest_file() {
+    let saved = Saved {
+        nodes: MAX_NODES,
+        ends: (0..2 * MAX_EDGES).map(|k| (k % MAX_NODES) as u16).collect(),
+        colors: Some((0..MAX_EDGES).map(|k| (k * 17) as u16).collect()),
+        method: Some(Method::Saturation),
+    };
+    let bytes = saved.write().unwrap();
+    assert_eq!(bytes.len(), MAX_FILE);
+    assert_eq!(Saved::read(&bytes), Ok(saved));
 }
 
 #[test]
