@@ -26,7 +26,7 @@ length-numbers [] = refl
 length-numbers (byte ∷ []) = refl
 length-numbers (low ∷ high ∷ rest) = omega (arith, length-numbers rest)
 
-pub numbers-at : (bytes : List ℕ) (i : ℕ) → 2 * i + 1 < length bytes → getD (numbers bytes) i 0 ≡ number16 (getD bytes (2 * i) 0) (getD bytes (2 * i + 1) 0)
+numbers-at : (bytes : List ℕ) (i : ℕ) → 2 * i + 1 < length bytes → getD (numbers bytes) i 0 ≡ number16 (getD bytes (2 * i) 0) (getD bytes (2 * i + 1) 0)
 unfolding numbers
 numbers-at [] i h = let z : ⊥ = omega arith in absurd z
 numbers-at (byte ∷ []) i h = let z : ⊥ = omega arith in absurd z

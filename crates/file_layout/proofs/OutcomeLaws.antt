@@ -92,7 +92,7 @@ length-file : (file : File) → length (fileBytes file) ≡ 8 + 2 * length (file
 length-file file = length-others file ∙ ap (λ (x : ℕ). 8 + 2 * length (file .ends) + x) (length-optional (file .colors) (file .tags) (file .method))
 
 -- "The longest file is now 24,591 bytes."
-pub file-longest : (file : File) → WellFormed file → length (fileBytes file) ≤ mostBytes
+file-longest : (file : File) → WellFormed file → length (fileBytes file) ≤ mostBytes
 unfolding hasTag tagBit
 file-longest file w =
     let e = length-file file in
@@ -134,7 +134,7 @@ longest-file =
 pub over-front : (front before : List ℕ) (k : ℕ) → k ≡ length front → take k (over front before) ≡ front
 over-front front before k h = rw h (take-append-seam front (drop (length front) before))
 
-pub over-rest : (front before : List ℕ) (k : ℕ) → k ≡ length front → drop k (over front before) ≡ drop k before
+over-rest : (front before : List ℕ) (k : ℕ) → k ≡ length front → drop k (over front before) ≡ drop k before
 over-rest front before k h = rw h (drop-append-seam front (drop (length front) before))
 
 -- The file of a call that is handed what a file says.
@@ -288,7 +288,7 @@ module _ (n : ℕ) (ends colors : List ℕ) (tags method : ℕ) (output₀ : Lis
   colored-test : (hasTag 3 tags ≡ true → length colors ≡ edgeCount ends) → wrongColors ≡ false
   colored-test h = by-test (hasTag 3 tags) (λ t. simp (t, eq-eqb (length colors) (edgeCount ends) (h t))) (λ t. simp t)
 
-  pub tells-passed : Tells n ends colors tags method → length (fileBytes told) ≤ length output₀ → Written
+  tells-passed : Tells n ends colors tags method → length (fileBytes told) ≤ length output₀ → Written
   tells-passed w h = accepted-writing (passes n ends (w .graph)) (named-test (w .named)) (colored-test (w .colored)) h
 
   module _ (b : allBelow 65536 colors ≡ true) (w : Tells n ends colors tags method) where

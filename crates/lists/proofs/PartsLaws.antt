@@ -74,11 +74,6 @@ overwrite-append l at (x ∷ s) t =
     let e : suc at + length s ≡ at + suc (length s) = omega arith in
     overwrite-append (set l at x) (suc at) s t ∙ ap (λ (i : ℕ). overwrite (overwrite (set l at x) (suc at) s) i t) e
 
-pub overwrite-length : (l : List ℕ) (at : ℕ) (s : List ℕ) → length (overwrite l at s) ≡ length l
-unfolding overwrite
-overwrite-length l at [] = refl
-overwrite-length l at (x ∷ s) = overwrite-length (set l at x) (suc at) s ∙ length-set l at x
-
 overwrite-behind : (l : List ℕ) (at y : ℕ) (s : List ℕ) → overwrite (y ∷ l) (suc at) s ≡ y ∷ overwrite l at s
 unfolding overwrite
 overwrite-behind l at y [] = refl

@@ -1,6 +1,6 @@
 // Words and numbers of the input.
 ghost use mathlib.Core.Path.{_≡_};
-ghost use Prim.Native.Nat.{_+_, _*_, _≤_, _<_};
+ghost use Prim.Native.Nat.{_+_, _*_, _≤_, _<_, min};
 ghost use Rattle.io.specs.Counts.{Counts};
 use crate::cursor::Cursor;
 use crate::cursor::next;
@@ -97,7 +97,7 @@ pub(crate) fn read_number(buffer: &mut [u8], input: Cursor) -> NumberRead
 
 // A number as a slice holds it; one that is too large becomes the greatest.
 pub fn narrow(value: usize) -> u16
-    ensures answer { λ r. ⌜ (value ≤ 65535 → r ≡ value) ⌝ }
+    ensures answer { λ r. ⌜ r ≡ min value 65535 ⌝ }
 {
     if value > 65535 { 65535 } else { value as u16 }
 }
@@ -122,7 +122,7 @@ pub(crate) fn read_list(buffer: &mut [u8], input: Cursor, list: &mut [u16]) -> L
 
 // The same of bytes.
 pub fn narrow_byte(value: usize) -> u8
-    ensures answer { λ r. ⌜ (value ≤ 255 → r ≡ value) ⌝ }
+    ensures answer { λ r. ⌜ r ≡ min value 255 ⌝ }
 {
     if value > 255 { 255 } else { value as u8 }
 }
