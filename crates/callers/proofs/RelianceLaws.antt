@@ -16,10 +16,11 @@ use Rattle.graph.specs.Edges.{edgeCount, firstEnd, secondEnd, farEnd, At}
 use Rattle.graph.proofs.EdgeLaws.{far-first, far-second}
 use Rattle.vizing.proofs.Theorem.{max-degree-bound}
 use Rattle.vizing.specs.Clause.{VizingColoring}
+use Rattle.vizing.specs.AddEdge.{EdgeAdded}
 use Rattle.greedy.specs.Call.{PrecoloringKept, ProperNodeColoring, ProperEdgeColoring}
 use Rattle.two_color.specs.Walk.{isOdd, Walk, stay, along, OddClosedWalk}
 use Rattle.two_color.specs.TwoColor.{Bipartition}
-use Rattle.callers.specs.Reliance.{EdgesProperlyColored, NoPresetMoved, AdjacentNodesDiffer, AdjacentEdgesDiffer, DiffersAlongEveryEdge, NoAssignment, BipartitionOrNone}
+use Rattle.callers.specs.Reliance.{EdgesProperlyColored, LateMatchProperlyColored, NoPresetMoved, AdjacentNodesDiffer, AdjacentEdgesDiffer, DiffersAlongEveryEdge, NoAssignment, BipartitionOrNone}
 
 pub edges-proper : (n : ℕ) (ends lent : List ℕ) (report : Report ℕ) (colors : List ℕ) → VizingColoring n ends lent report colors → EdgesProperlyColored n ends lent report colors
 edges-proper n ends lent report colors c = record {
@@ -31,6 +32,22 @@ edges-proper n ends lent report colors c = record {
   differ = λ days e i j v h g d p q.
       let a = c .admits days e in
       c .demand3 (a .0) (a .1) .accurate .sharing i j v (h, p) (g, q) d;
+}
+
+pub late-match-proper : (n : ℕ) (ends stored lent : List ℕ) (report : Report ℕ) (colors : List ℕ) → EdgeAdded n ends stored lent report colors → LateMatchProperlyColored n ends stored lent report colors
+late-match-proper n ends stored lent report colors c = record {
+  accepts = λ a s l r d. c .accepts (record {
+    admitted = a;
+    one-fewer = s;
+    size = l;
+    proper = record { range = r; sharing = λ i j v p q e. d i j v (p .0) (q .0) e (p .1) (q .1) };
+  });
+  colored = λ days e k h q.
+      let r = c .accurate days e .range k h in
+      omega (arith, r, c .admits days e .admitted .edges, max-degree-bound ends (edgeCount ends) n);
+  differ = λ days e i j v h g d p q. c .accurate days e .sharing i j v (h, p) (g, q) d;
+  range = λ days e. c .accurate days e .range;
+  afresh = c .afresh;
 }
 
 pub no-preset-moved : (n : ℕ) (ends : List ℕ) (items : ℕ) (presets lent : List ℕ) (report : Report ℕ) (colors : List ℕ) → (Passed n ends → length presets ≡ items → length lent ≡ items → Accepted report) → PrecoloringKept items presets report colors

@@ -1,27 +1,52 @@
 -- What each caller relies on, of a call's report and of its slice afterwards.
-use Prim.Native.Nat.{ℕ, _<_}
+use Prim.Native.Nat.{ℕ, _-_, _*_, _≤_, _<_}
 use mathlib.Core.Path.{_≡_}
 use mathlib.Core.Logic.{_⊎_, _≢_}
 use mathlib.Core.List.{List}
 use mathlib.Core.Bool.{Bool}
-use lib.ListN.{length, getD}
+use lib.ListN.{length, getD, take}
 use Rattle.graph.specs.Report.{Report, accepted, refused, Accepted}
 use Rattle.graph.specs.Check.{Passed}
 use Rattle.graph.specs.Edges.{edgeCount, firstEnd, secondEnd, At}
 use Rattle.graph.specs.Color.{noColor}
 use Rattle.graph.specs.Colored.{colorOf}
-use Rattle.vizing.specs.Demand3.{Admitted}
+use Rattle.vizing.specs.Demand3.{maxDegree, Admitted}
+use Rattle.vizing.specs.MisraGries.{misraGries}
 
 -- ---- the date table
 
 -- Clubs are nodes, matches are edges, days are colours.
+
+-- Of the first m matches, two of one club have different days.
+abbrev pub NoClubTwice : List ℕ → ℕ → List ℕ → Type 0
+NoClubTwice ends m colors = (i j v : ℕ) → i < m → j < m → i ≢ j → At ends i v → At ends j v → colorOf colors i ≢ colorOf colors j
+
+-- None of the first m matches has a day above D, the most matches that a club has in the whole list.
+abbrev pub NoDayAboveD : ℕ → List ℕ → ℕ → List ℕ → Type 0
+NoDayAboveD n ends m colors = (k : ℕ) → k < m → colorOf colors k ≤ maxDegree ends (edgeCount ends) n
+
 pub record EdgesProperlyColored (n : ℕ) (ends lent : List ℕ) (report : Report ℕ) (colors : List ℕ) : Type 0 where
   -- Every admitted list of matches is accepted;
   pub accepts : Admitted n ends → length lent ≡ edgeCount ends → Accepted report
   -- then every match has a day,
   pub colored : (days : ℕ) → report ≡ accepted days → (k : ℕ) → k < edgeCount ends → colorOf colors k ≢ noColor
   -- and two matches of one club have different days.
-  pub differ : (days : ℕ) → report ≡ accepted days → (i j v : ℕ) → i < edgeCount ends → j < edgeCount ends → i ≢ j → At ends i v → At ends j v → colorOf colors i ≢ colorOf colors j
+  pub differ : (days : ℕ) → report ≡ accepted days → NoClubTwice ends (edgeCount ends) colors
+
+-- The last match comes late, when the others have their days.
+pub record LateMatchProperlyColored (n : ℕ) (ends stored lent : List ℕ) (report : Report ℕ) (colors : List ℕ) : Type 0 where
+  -- Every admitted list of matches is accepted, whatever days the others have, if none is above D and no club has two matches on one;
+  pub accepts : Admitted n ends → length stored ≡ edgeCount ends - 1 → length lent ≡ edgeCount ends
+      → NoDayAboveD n ends (length stored) stored → NoClubTwice ends (length stored) stored → Accepted report
+  -- then every match has a day,
+  pub colored : (days : ℕ) → report ≡ accepted days → (k : ℕ) → k < edgeCount ends → colorOf colors k ≢ noColor
+  -- two matches of one club have different days,
+  pub differ : (days : ℕ) → report ≡ accepted days → NoClubTwice ends (edgeCount ends) colors
+  -- and no day is above D.
+  pub range : (days : ℕ) → report ≡ accepted days → NoDayAboveD n ends (edgeCount ends) colors
+  -- If the others have the days that misra_gries_edge_color gives them, all is as it gives the whole list.
+  pub afresh : (places : List ℕ) → length places ≡ edgeCount ends - 1 → stored ≡ misraGries n (take (2 * (edgeCount ends - 1)) ends) places .colors
+      → (report ≡ misraGries n ends lent .report) × (colors ≡ misraGries n ends lent .colors)
 
 -- ---- the holiday lookup
 

@@ -5,6 +5,7 @@ mod page_grid;
 mod proof_printer;
 
 pub use date_table::edges_properly_colored;
+pub use date_table::late_match_properly_colored;
 pub use holiday_lookup::no_preset_edge_moved;
 pub use holiday_lookup::no_preset_node_moved;
 pub use holiday_lookup::no_preset_node_moved_by_degree;

@@ -20,6 +20,7 @@ use Rattle.line_list.specs.LineList.{lineChecks, lineGraph}
 use Rattle.greedy.specs.Call.{Rule, ruleOf, itemChecks, greedyItems, greedyItemsPlain, greedyNodes, greedyNodesPlain, edgeNeighbors, greedyEdges, greedyEdgesPlain}
 use Rattle.greedy.specs.declared.ColoringStrategy.{ColoringStrategy}
 use Rattle.vizing.specs.MisraGries.{misraGriesChecks, misraGries}
+use Rattle.vizing.specs.AddEdge.{storedChecks, addEdgeChecks, addEdge}
 use Rattle.file_layout.specs.Outcomes.{readChecks, readFile, writeChecks, writeFile}
 use Rattle.c_answer.specs.Answer.{code}
 use Rattle.c_answer.specs.Strategy.{strategyOf}
@@ -60,6 +61,10 @@ module _ (n : ℕ) (ends : List ℕ) where
   pub misra-gries-zero : (colors : List ℕ) → ZeroAccepts (misraGries n ends colors .report)
   unfolding misraGries misraGriesChecks graphChecks colored numbersPass
   misra-gries-zero colors = zero-accepted (misraGriesChecks n ends colors) _ refl
+
+  pub add-edge-zero : (stored colors : List ℕ) → ZeroAccepts (addEdge n ends stored colors .report)
+  unfolding addEdge addEdgeChecks storedChecks graphChecks colored numbersPass
+  add-edge-zero stored colors = zero-accepted (addEdgeChecks n ends stored colors) _ refl
 
   pub write-file-zero : (colors : List ℕ) (tags method : ℕ) (output : List ℕ) → ZeroAccepts (writeFile n ends colors tags method output .report)
   unfolding writeFile writeChecks graphChecks numbersPass

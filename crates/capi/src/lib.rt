@@ -8,6 +8,7 @@ ghost use Rattle.line_list.specs.LineList.{lineGraph};
 ghost use Rattle.greedy.specs.Degree.{degreeColors};
 ghost use Rattle.greedy.specs.Call.{greedyNodes, greedyNodesPlain, greedyEdgesPlain};
 ghost use Rattle.vizing.specs.MisraGries.{misraGries};
+ghost use Rattle.vizing.specs.AddEdge.{addEdge};
 ghost use Rattle.file_layout.specs.Outcomes.{readFile, writeFile};
 ghost use Rattle.c_answer.specs.Answer.{Answered};
 ghost use Rattle.capi.specs.Strategy.{nodesByNumber, edgesByNumber};
@@ -159,6 +160,24 @@ pub extern "C" fn wg_misra_gries_edge_color(
         ⌜ Answered (outcome .report) (outcome .colors) (now (days .entry)) r (now (days .exit)) (now (colors .exit)) ⌝ }
 {
     answer_coloring(wulgranite::misra_gries_edge_color(n, ends, colors), days)
+}
+
+#[no_mangle]
+pub extern "C" fn wg_misra_gries_add_edge(
+    n: usize,
+    ends: &[u16],
+    stored: &[u16],
+    colors: &mut [u16],
+    days: &mut usize,
+) -> u32
+    ensures answered { λ r. let ends = now (ends .entry) in let stored = now (stored .entry) in let colors₀ = now (colors .entry) in
+        let outcome = addEdge n ends stored colors₀ in
+        ⌜ Answered (outcome .report) (outcome .colors) (now (days .entry)) r (now (days .exit)) (now (colors .exit)) ⌝ }
+{
+    answer_coloring(
+        wulgranite::misra_gries_add_edge(n, ends, stored, colors),
+        days,
+    )
 }
 
 #[no_mangle]

@@ -54,15 +54,15 @@ pub days-colored : (c : ℕ) (cs : List ℕ) → c ≢ noColor → daysOf (c ∷
 unfolding daysOf
 days-colored c cs n = simp (ne-eqb c noColor n)
 
-days-uncolored : (c : ℕ) (cs : List ℕ) → c ≡ noColor → daysOf (c ∷ cs) ≡ daysOf cs
+pub days-uncolored : (c : ℕ) (cs : List ℕ) → c ≡ noColor → daysOf (c ∷ cs) ≡ daysOf cs
 unfolding daysOf
 days-uncolored c cs e = simp (eq-eqb c noColor e)
 
 -- A colour more: the days of the rest, or one more than the colour.
-days-raised : (c : ℕ) (cs : List ℕ) → c ≢ noColor → daysOf cs ≤ c → daysOf (c ∷ cs) ≡ suc c
+pub days-raised : (c : ℕ) (cs : List ℕ) → c ≢ noColor → daysOf cs ≤ c → daysOf (c ∷ cs) ≡ suc c
 days-raised c cs n h = days-colored c cs n ∙ simp (le-ltb c (daysOf cs) h)
 
-days-kept : (c : ℕ) (cs : List ℕ) → c < daysOf cs → daysOf (c ∷ cs) ≡ daysOf cs
+pub days-kept : (c : ℕ) (cs : List ℕ) → c < daysOf cs → daysOf (c ∷ cs) ≡ daysOf cs
 days-kept c cs h = elim (dec-eq c noColor) [ inl e ↦ days-uncolored c cs e | inr n ↦ days-colored c cs n ∙ simp (lt-ltb c (daysOf cs) h) ]
 
 days-grow : (c : ℕ) (cs : List ℕ) → daysOf cs ≤ daysOf (c ∷ cs)

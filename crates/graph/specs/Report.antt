@@ -2,7 +2,7 @@
 use Prim.Native.Nat.{ℕ}
 use mathlib.Core.Path.{_≡_}
 use Rattle.graph.specs.declared.Refusal.{Refusal}
-use Rattle.graph.specs.declared.Refusal.the-variants.{TooManyNodes, OddEnds, TooManyEnds, EndOutside, WrongLength, Loop, DoubleEdge, OddClosedWalk, ShortList, BadFile}
+use Rattle.graph.specs.declared.Refusal.the-variants.{TooManyNodes, OddEnds, TooManyEnds, EndOutside, WrongLength, Loop, DoubleEdge, OddClosedWalk, ShortList, BadFile, BadStoredColors}
 use Rattle.graph.specs.declared.Checked.{Checked}
 use Rattle.graph.specs.declared.Checked.the-variants as C
 use Rattle.graph.specs.declared.IncidenceAnswer.{IncidenceAnswer}
@@ -19,7 +19,7 @@ pub data Report (A : Type 0) : Type 0 where
 abbrev pub Accepted : {A : Type 0} → Report A → Type 0
 Accepted {A} report = (values : A) × (report ≡ accepted values)
 
--- 01's number of each refusal.
+-- 01's number of each refusal; 11 is Point 2's of 02.
 abbrev pub number : Refusal → ℕ
 number TooManyNodes = 1
 number OddEnds = 2
@@ -31,6 +31,7 @@ number DoubleEdge = 7
 number OddClosedWalk = 8
 number ShortList = 9
 number BadFile = 10
+number BadStoredColors = 11
 
 -- The graph checks report the node count and the edge count.
 abbrev pub reportOfChecked : Checked → Report (ℕ × ℕ)

@@ -65,6 +65,7 @@ pub enum Refusal {
     OddClosedWalk,
     ShortList,
     BadFile,
+    BadStoredColors,
 }
 
 impl Refusal {
@@ -83,6 +84,7 @@ impl Refusal {
             Refusal::OddClosedWalk => 8,
             Refusal::ShortList => 9,
             Refusal::BadFile => 10,
+            Refusal::BadStoredColors => 11,
         }
     }
 }

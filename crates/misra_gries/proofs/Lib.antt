@@ -1,5 +1,6 @@
 -- Laws of what specs/ defines.
 pub mod MarkedFanLaws
 pub mod StepLaws
-pub mod CallLaws
 pub mod RunLaws
+pub mod CallLaws
+pub mod AddLaws

@@ -1,35 +1,37 @@
 -- Laws of the run, and of its days.
-use Prim.Native.Nat.{ℕ, zero, suc, _≤_, _<_, _+_, max}
-use mathlib.Core.Path.{_≡_, refl, sym, ap, _∙_}
-use mathlib.Core.Logic.{_≢_}
+use Prim.Native.Nat.{ℕ, zero, suc, _≤_, _<_, _+_, _-_, max}
+use mathlib.Core.Path.{_≡_, refl, sym, ap, ap₂, _∙_}
+use mathlib.Core.Logic.{_≢_, inl, inr}
 use mathlib.Core.List.{List, [], _∷_}
 use mathlib.Core.Bool.{Bool, cond}
 use native.Mathlib.Omega.{arith}
+use native.Mathlib.Decide.{decLt}
 use lib.ListN.{length, take, getD, replicate, length-replicate}
 use lib.Seq.{length-take-le}
 use lib.Dec.{eqb, ltb}
 use borrow.Author.Tests.{le-ltb, ltb-true, ltb-false, eq-eqb, ne-eqb}
 use native.Mathlib.Numerals.{add-one}
-use Rattle.lists.proofs.Tests.{by-test}
+use Rattle.lists.proofs.Tests.{by-test, dec-eq}
 use Rattle.graph.specs.Color.{daysOf, noColor}
-use Rattle.graph.proofs.ColorLaws.{days-empty, days-colored, color-take}
+use Rattle.graph.proofs.ColorLaws.{days-empty, days-colored, days-uncolored, days-raised, days-kept, color-take}
 use Rattle.graph.specs.Colored.{colorOf}
-use Rattle.vizing.specs.MisraGries.{greatestColor, step, heldAfter, held, find}
+use Rattle.vizing.specs.MisraGries.{greatestColor, step, heldAfter, held, Held, stepHeld}
 use Rattle.graph.specs.Edges.{edgeCount}
 use Rattle.graph.specs.Stretch.{Table}
 use Rattle.vizing.specs.Demand3.{Admitted}
 use Rattle.vizing.proofs.Theorem.{max-degree-bound}
 use Rattle.vizing.proofs.DefinitionLaws.{step-list, step-edges, step-greatest}
 use Rattle.vizing.specs.Step.{Invariant}
-use Rattle.vizing.proofs.StepLaws.{run-keeps}
-use Rattle.vizing.proofs.Tally.{greatest-step, tally-same, tally-edges, tally-greatest}
+use Rattle.vizing.proofs.StepLaws.{step-keeps}
+use Rattle.vizing.proofs.Tally.{greatest-step, tally-same}
 use Rattle.vizing.specs.MisraGries as definition
-use Rattle.repaint.specs.Repaint.{FitsTable}
-use Rattle.repaint.proofs.RepaintLaws.{start-table, getD-same}
+use Rattle.vizing.specs.AddEdge.{storedList, ProperlyStored}
+use Rattle.vizing.proofs.AddEdgeLaws.{stored-kept, stored-uncolored, stored-taken}
+use Rattle.repaint.specs.Repaint.{TableOf}
+use Rattle.repaint.proofs.RepaintLaws.{getD-same}
 use Rattle.misra_gries.specs.declared.tally.Tally.{Tally}
 use Rattle.misra_gries.proofs.StepLaws.{palette}
-use Rattle.misra_gries.specs.Step.{InRange, Ready, topColor, tallyOf, Tallied, Running}
-use Rattle.edge_table.specs.EdgeTable.{noEdge}
+use Rattle.misra_gries.specs.Step.{InRange, Ready, topColor, tallyOf, Tallied, heldOf, stepsFrom, storedHeld, Running}
 
 -- ---- Days read off the tally: the greatest colour plus one, or 0 where no edge is coloured
 
@@ -92,93 +94,166 @@ days-read (c ∷ cs) (suc m) h b n =
         let below : j < suc m = omega (arith, length-take-le m cs (omega arith)) in
         n j below (sym (color-take (c ∷ cs) (suc m) j below) ∙ e)
 
--- ---- the run
+-- Of any list, the greatest colour is one below its days.
+pub greatest-days : (cs : List ℕ) → greatestColor cs ≡ daysOf cs - 1
+greatest-days [] = greatest-none ∙ (omega (arith, days-empty))
+greatest-days (c ∷ cs) = elim (dec-eq c noColor) [
+  | inl e ↦ greatest-uncolored c cs e ∙ (greatest-days cs ∙ ap (λ (d : ℕ). d - 1) (sym (days-uncolored c cs e)))
+  | inr n ↦ greatest-colored c cs n ∙ elim (decLt c (daysOf cs)) [
+    | yes h ↦ rw (le-ltb (greatestColor cs) c (omega (arith, greatest-days cs)), days-kept c cs h) (greatest-days cs)
+    | no h ↦ rw (days-raised c cs n (omega arith)) (by-test (ltb (greatestColor cs) c)
+        (λ t. simp t (omega arith))
+        (λ t. simp t (omega (arith, greatest-days cs, ltb-false (greatestColor cs) c t))))
+  ]
+]
 
-run-kept : (n : ℕ) (ends : List ℕ) → Admitted n ends → (k : ℕ) → k ≤ edgeCount ends → Invariant ends (edgeCount ends) (InRange n ends) k (held n ends k)
-unfolding held
-run-kept n ends a = run-keeps ends (edgeCount ends) n (InRange n ends) (a .simple) (a .inside) (a .edges) (palette n ends a)
+-- Of colours in 16 bits, one below the days fits 16 bits.
+pub days-fit : (cs : List ℕ) → ((i : ℕ) → getD cs i 0 < 65536) → daysOf cs ≤ 65536
+days-fit [] b = omega (arith, days-empty)
+days-fit (c ∷ cs) b =
+    let rest = days-fit cs (λ i. b (suc i)) in
+    elim (dec-eq c noColor) [
+      | inl e ↦ omega (arith, rest, days-uncolored c cs e)
+      | inr n ↦ elim (decLt c (daysOf cs)) [ yes h ↦ omega (arith, rest, days-kept c cs h) | no h ↦ omega (arith, b 0, days-raised c cs n (omega arith)) ]
+    ]
+
+-- ---- the run
 
 greater : (a b : ℕ) → cond (ltb a b) b a ≡ max a b
 greater a b = by-test (ltb a b) (λ u. simp u (omega (arith, ltb-true a b u))) (λ u. simp u (omega (arith, ltb-false a b u)))
 
-fits-table : (n : ℕ) (ends : List ℕ) → Admitted n ends → FitsTable ends (edgeCount ends)
-fits-table n ends a = record { edges = a .edges; nodes = λ k h. (omega (arith, a .inside k h .0, a .nodes), omega (arith, a .inside k h .1, a .nodes)) }
+held-same : (a b : Held) → a .list ≡ b .list → a .tally ≡ b .tally → a ≡ b
+held-same a b p q = ap₂ {C = Held} (λ (x : List ℕ) (y : definition.Tally). record { list = x; tally = y }) p q
 
--- The start: no edge coloured, an empty table, no marks, nothing tallied.
-running-start : (n : ℕ) (ends starts entries marks : List ℕ) (N : ℕ) → Admitted n ends → Table ends n starts entries → edgeCount ends ≤ length marks → ((j : ℕ) → getD marks j 0 ≡ 0) → N ≡ 294912
-    → Running n ends starts entries (replicate 4096 noColor) (replicate N noEdge) marks (record { edges = 0; greatest = 0 }) 0
-unfolding held heldAfter
-running-start n ends starts entries marks N a rows size blank e = record {
+-- Marks that are all 0.
+abbrev noMarks : List ℕ
+noMarks = replicate 4096 0
+
+fresh-marks : (n : ℕ) (ends : List ℕ) → Admitted n ends → (k : ℕ) → (edgeCount ends ≤ length noMarks) × ((j : ℕ) → getD noMarks j 0 < k + 1)
+fresh-marks n ends a k = (rw (length-replicate {A = ℕ} 4096 0) (a .edges), λ j. omega (arith, getD-same 4096 j 0))
+
+-- The start: the stored colours, be it none, are entered and tallied, and no edge is marked.
+pub running-stored : (n : ℕ) (ends starts entries stored work table : List ℕ) (t : Tally) → Admitted n ends → Table ends n starts entries → length stored ≤ edgeCount ends
+    → ProperlyStored n ends stored → work ≡ storedList stored → TableOf ends (edgeCount ends) work table → (t .edges ≡ length stored) × (t .greatest ≡ greatestColor stored)
+    → Running n ends starts entries work table (replicate 4096 0) t (length stored)
+running-stored n ends starts entries stored work table t a rows few P w L counted = record {
   admitted = a;
   rows = rows;
-  bound = omega arith;
-  list = refl;
-  tabled = start-table ends (edgeCount ends) 4096 N (fits-table n ends a) (a .edges) e;
-  size = size;
-  unmarked = λ j. omega (arith, blank j);
-  tally = refl;
+  bound = few;
+  kept = rw w (stored-kept n ends stored a few P);
+  tabled = L;
+  size = fresh-marks n ends a (length stored) .0;
+  unmarked = fresh-marks n ends a (length stored) .1;
+  edges = counted .0;
+  greatest = counted .1 ∙ sym (ap greatestColor w ∙ (greatest-front (storedList stored) (length stored) (stored-uncolored stored) ∙ ap greatestColor (stored-taken stored)));
 }
 
--- The same with the lists of the call.
-pub running-begin : (n : ℕ) (ends starts entries : List ℕ) (N : ℕ) → Admitted n ends → Table ends n starts entries → N ≡ 294912
-    → Running n ends starts entries (replicate 4096 noColor) (replicate N noEdge) (replicate 4096 0) (record { edges = 0; greatest = 0 }) 0
-running-begin n ends starts entries N a rows e =
-    running-start n ends starts entries (replicate 4096 0) N a rows (rw (length-replicate {A = ℕ} 4096 0) (a .edges)) (λ j. getD-same 4096 j 0) e
-
 module _ (n : ℕ) (ends starts entries work table marks : List ℕ) (t : Tally) (k : ℕ) (running : Running n ends starts entries work table marks t k) where
-  now-kept : Invariant ends (edgeCount ends) (InRange n ends) k work
-  now-kept = rw (running .list) (run-kept n ends (running .admitted) k (running .bound))
-
-  pub running-edges : t .edges ≡ k
-  running-edges = ap (λ (x : definition.Tally). x .edges) (running .tally) ∙ tally-edges ends (edgeCount ends) n k
-
-  running-greatest : t .greatest ≡ greatestColor work
-  unfolding held
-  running-greatest = ap (λ (x : definition.Tally). x .greatest) (running .tally) ∙ (tally-greatest ends (edgeCount ends) n k ∙ sym (ap greatestColor (running .list)))
-
   pub running-room : edgeCount ends ≤ length work
-  running-room = omega (arith, now-kept .size, running .admitted .edges)
+  running-room = omega (arith, running .kept .size, running .admitted .edges)
 
   pub running-ready : k < edgeCount ends → Ready n ends starts entries work table marks k
   running-ready h = record {
     admitted = running .admitted;
     rows = running .rows;
     edge = h;
-    kept = now-kept;
+    kept = running .kept;
     tabled = running .tabled;
     size = running .size;
     unmarked = running .unmarked;
   }
 
-  pub running-more : (t′ : Tally) (work′ table′ marks′ : List ℕ) → k < edgeCount ends → Tallied n ends starts entries work table marks k t t′ work′ table′ marks′ → Running n ends starts entries work′ table′ marks′ t′ (k + 1)
-  unfolding held heldAfter topColor
-  running-more t′ work′ table′ marks′ h s =
-      let a = running .admitted in
-      let m = edgeCount ends in
-      let f = find ends m n work k in
-      let g = greatest-step ends m n (InRange n ends) (a .simple) (a .inside) (a .edges) (palette n ends a) work k h now-kept in
-      let e = s .stepped in
-      let before = heldAfter ends m n k in
-      let edges : t .edges + 1 ≡ suc (before .tally .edges) = rw (running-edges, tally-edges ends m n k) (add-one k) in
-      record {
-        admitted = a;
-        rows = running .rows;
-        bound = omega arith;
-        list = rw (add-one k) (e .list ∙ ap (λ (l : List ℕ). step ends m n l k) (running .list) ∙ sym (step-list ends m n before k));
-        tabled = e .tabled;
-        size = omega (arith, e .size, running .size);
-        unmarked = λ j. omega (arith, e .marked j);
-        tally = rw (add-one k) (tally-same (tallyOf t′) (heldAfter ends m n (suc k) .tally)
-            (ap (λ (x : Tally). x .edges) (s .noted) ∙ edges ∙ sym (step-edges ends m n before k))
-            (ap (λ (x : Tally). x .greatest) (s .noted) ∙ (greater (t .greatest) (s .color) ∙ (ap (λ (i : ℕ). max i (s .color)) running-greatest ∙ (ap (max (greatestColor work)) (e .top) ∙ (sym g ∙ (ap (λ (l : List ℕ). greatestColor (step ends m n l k)) (running .list) ∙ sym (step-greatest ends m n before k))))))));
-      }
+  module _ (t′ : Tally) (work′ table′ marks′ : List ℕ) (h : k < edgeCount ends) (s : Tallied n ends starts entries work table marks k t t′ work′ table′ marks′) where
+    -- The tally of the step is the definition's.
+    raised : t′ .greatest ≡ greatestColor work′
+    unfolding topColor
+    raised =
+        let a = running .admitted in
+        let m = edgeCount ends in
+        let g = greatest-step ends m n (InRange n ends) (a .simple) (a .inside) (a .edges) (palette n ends a) work k h (running .kept) in
+        ap (λ (x : Tally). x .greatest) (s .noted) ∙ (greater (t .greatest) (s .color) ∙ (ap (λ (i : ℕ). max i (s .color)) (running .greatest) ∙ (ap (max (greatestColor work)) (s .stepped .top) ∙ (sym g ∙ sym (ap greatestColor (s .stepped .list))))))
 
-  -- All edges are done: the first m colours are the answer, and `days` comes from the tally.
-  pub running-done : edgeCount ends ≤ k → (take (edgeCount ends) work ≡ take (edgeCount ends) (held n ends (edgeCount ends))) × (cond (eqb (t .edges) 0) 0 (t .greatest + 1) ≡ daysOf (take (edgeCount ends) (held n ends (edgeCount ends))))
-  running-done h =
+    counted : t′ .edges ≡ t .edges + 1
+    counted = ap (λ (x : Tally). x .edges) (s .noted)
+
+    pub running-more : Running n ends starts entries work′ table′ marks′ t′ (k + 1)
+    running-more =
+        let a = running .admitted in
+        let m = edgeCount ends in
+        let e = s .stepped in
+        record {
+          admitted = a;
+          rows = running .rows;
+          bound = omega arith;
+          kept = rw (add-one k, e .list) (step-keeps ends m n (InRange n ends) (a .simple) (a .inside) (a .edges) (palette n ends a) work k h (running .kept));
+          tabled = e .tabled;
+          size = omega (arith, e .size, running .size);
+          unmarked = λ j. omega (arith, e .marked j);
+          edges = omega (arith, counted, running .edges);
+          greatest = raised;
+        }
+
+    -- What is held is the definition's, so the steps from here on hold what those from the start do.
+    pub running-next : (held : Held) → stepsFrom ends (edgeCount ends) n (heldOf work t) k (edgeCount ends - k) ≡ held → stepsFrom ends (edgeCount ends) n (heldOf work′ t′) (k + 1) (edgeCount ends - (k + 1)) ≡ held
+    unfolding stepsFrom
+    running-next held e =
+        let m = edgeCount ends in
+        let count : m - k ≡ suc (m - suc k) = omega arith in
+        let now = heldOf work t in
+        let list : stepHeld ends m n now k .list ≡ work′ = step-list ends m n now k ∙ sym (s .stepped .list) in
+        let tally = tally-same (stepHeld ends m n now k .tally) (tallyOf t′) (step-edges ends m n now k ∙ omega (arith, counted)) (step-greatest ends m n now k ∙ (ap greatestColor (sym (s .stepped .list)) ∙ sym raised)) in
+        rw (add-one k) (ap (λ (x : Held). stepsFrom ends m n x (suc k) (m - suc k)) (sym (held-same (stepHeld ends m n now k) (heldOf work′ t′) list tally)) ∙ (rw count at e))
+
+  -- All edges are done: the steps that are left hold what is here, and `days` comes from the tally.
+  pub running-end : (held : Held) → stepsFrom ends (edgeCount ends) n (heldOf work t) k (edgeCount ends - k) ≡ held → edgeCount ends ≤ k → heldOf work t ≡ held
+  unfolding stepsFrom
+  running-end held e h = let z : edgeCount ends - k ≡ zero = omega arith in rw z at e
+
+  running-days : edgeCount ends ≤ k → cond (eqb (t .edges) 0) 0 (t .greatest + 1) ≡ daysOf (take (edgeCount ends) work)
+  running-days h =
       let m = edgeCount ends in
       let e : k ≡ m = omega (arith, running .bound) in
-      let i : Invariant ends m (InRange n ends) m work = rw e at now-kept in
-      let same : work ≡ held n ends m = running .list ∙ ap (held n ends) e in
-      let days = days-read work m (omega (arith, i .size, running .admitted .edges)) (i .rest) (λ j b z. omega (arith, i .done j b, max-degree-bound ends m n, running .admitted .edges)) in
-      (ap (take m) same, rw (running-edges, e, running-greatest, add-one) (sym days ∙ ap (λ (l : List ℕ). daysOf (take m l)) same))
+      let i : Invariant ends m (InRange n ends) m work = rw e at (running .kept) in
+      rw (running .edges, e, running .greatest, add-one) (sym (days-read work m running-room (i .rest) (λ j b z. omega (arith, i .done j b, max-degree-bound ends m n, running .admitted .edges))))
+
+  -- The same of what the steps from the start hold.
+  pub rest-days : edgeCount ends ≤ k → (held : Held) → heldOf work t ≡ held → (days : ℕ) → days ≡ cond (eqb (t .edges) 0) 0 (t .greatest + 1) → days ≡ daysOf (take (edgeCount ends) (held .list))
+  rest-days h held e days d = d ∙ (running-days h ∙ ap (λ (x : Held). daysOf (take (edgeCount ends) (x .list))) e)
+
+pub rest-colors : (m : ℕ) (work : List ℕ) (t : Tally) (held : Held) → heldOf work t ≡ held → (colors : List ℕ) → colors ≡ take m work → colors ≡ take m (held .list)
+rest-colors m work t held e colors c = c ∙ ap (λ (x : Held). take m (x .list)) e
+
+-- ---- what the steps hold
+
+held-stored : (stored work : List ℕ) (t : Tally) → work ≡ storedList stored → (t .edges ≡ length stored) × (t .greatest ≡ greatestColor stored) → heldOf work t ≡ storedHeld stored
+held-stored stored work t w c = held-same (heldOf work t) (storedHeld stored) w (tally-same (tallyOf t) (storedHeld stored .tally) (c .0) (c .1))
+
+-- What the run holds is what the steps from the stored colours do.
+pub rest-held : (ends : List ℕ) (m n : ℕ) (stored work work′ : List ℕ) (t t′ : Tally) (k count : ℕ) → heldOf work′ t′ ≡ stepsFrom ends m n (heldOf work t) k count
+    → work ≡ storedList stored → (t .edges ≡ length stored) × (t .greatest ≡ greatestColor stored) → heldOf work′ t′ ≡ stepsFrom ends m n (storedHeld stored) k count
+rest-held ends m n stored work work′ t t′ k count e w c = e ∙ ap (λ (h : Held). stepsFrom ends m n h k count) (held-stored stored work t w c)
+
+module _ (ends : List ℕ) (m n : ℕ) where
+  -- From what the definition's run holds after k edges, what it holds after `count` more.
+  steps-held : (count k : ℕ) → stepsFrom ends m n (heldAfter ends m n k) k count ≡ heldAfter ends m n (k + count)
+  unfolding stepsFrom heldAfter
+  steps-held zero k = let e : k ≡ k + zero = omega arith in ap (heldAfter ends m n) e
+  steps-held (suc count) k = let e : suc k + count ≡ k + suc count = omega arith in steps-held count (suc k) ∙ ap (heldAfter ends m n) e
+
+-- From no stored colours: the whole run.
+pub whole-run : (n : ℕ) (ends : List ℕ) → let m = edgeCount ends in take m (stepsFrom ends m n (storedHeld []) 0 (m - 0) .list) ≡ take m (held n ends m)
+unfolding held heldAfter storedList
+whole-run n ends =
+    let m = edgeCount ends in
+    let c : m - 0 ≡ m = omega arith in
+    let z : 0 + m ≡ m = omega arith in
+    rw (c, greatest-none) (ap (λ (x : Held). take m (x .list)) (steps-held ends m n m 0 ∙ ap (heldAfter ends m n) z))
+
+-- From the colours of all edges but the last: its step, or none.
+pub last-step : (n : ℕ) (ends : List ℕ) (k : ℕ) → k ≡ edgeCount ends - 1 → (h : Held)
+    → let m = edgeCount ends in take m (stepsFrom ends m n h k (m - k) .list) ≡ take m (step ends m n (h .list) (m - 1))
+unfolding stepsFrom
+last-step n ends k e h = elim (dec-eq (edgeCount ends) 0) [
+  | inl z ↦ rw z
+  | inr some-edge ↦ let count : edgeCount ends - (edgeCount ends - 1) ≡ suc zero = omega arith in rw (e, count) (ap (take (edgeCount ends)) (step-list ends (edgeCount ends) n h (edgeCount ends - 1)))
+]

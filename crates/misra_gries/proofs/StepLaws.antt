@@ -1,5 +1,5 @@
 -- Laws of a step: colours in range, the path exchanged, the fan rotated.
-use Prim.Native.Nat.{ℕ, zero, suc, _<_, _+_, _-_, _*_, _≤_}
+use Prim.Native.Nat.{ℕ, suc, _<_, _+_, _-_, _*_, _≤_}
 use mathlib.Core.List.{List, [], _∷_, _++_}
 use native.Mathlib.Omega.{arith}
 use mathlib.Core.Path.{_≡_, refl, sym, ap, _∙_}
@@ -10,7 +10,7 @@ use lib.Seq.{length-take-le, take-append-le}
 use borrow.Author.Tests.{eq-eqb, ne-eqb}
 use Rattle.graph.specs.Edges.{edgeCount, firstEnd, secondEnd, farEnd, edgesAt, degree}
 use Rattle.vizing.specs.Demand3.{Admitted, maxDegree}
-use Rattle.vizing.proofs.Theorem.{degree-max, max-degree-bound, max-degree-attained}
+use Rattle.vizing.proofs.Theorem.{degree-max, max-degree-bound}
 use Rattle.vizing.proofs.StepLaws.{Palette, degree-palette, exchange-none, FoundLaws, found-laws, step-keeps}
 use Rattle.vizing.proofs.SimpleLaws.{degree-below}
 use Rattle.misra_gries.specs.Step.{InRange, Ready, Exchanging, Exchanged, Rotating, Rotated, Turning, Turned, topColor, FanReady}
@@ -22,7 +22,7 @@ use Rattle.vizing.proofs.StepForm.{lastFarEnd, rotatePlaces, StepParts, stepPar
 use Rattle.vizing.specs.Step.{Invariant}
 use Rattle.edge_table.specs.EdgeTable.{isEmpty, smallestEmpty, exchangedColors, rotatedColors}
 use Rattle.repaint.specs.Repaint.{state, repainted, Repaintable}
-use Rattle.repaint.proofs.RepaintLaws.{says-smallest, says-free, repaint-done, exchange-done, step-exchange, step-rotation}
+use Rattle.repaint.proofs.RepaintLaws.{max-degree-below, says-smallest, says-free, repaint-done, exchange-done, step-exchange, step-rotation}
 use Rattle.recolor.specs.Front.{putFront}
 use Rattle.recolor.specs.NewColors.{shiftedColors}
 use Rattle.recolor.proofs.NewColorsLaws.{exchanged-front, shifted-front}
@@ -31,21 +31,12 @@ use Rattle.recolor.proofs.TablePathLaws.{path-none, path-ended, table-path}
 use Rattle.fan.specs.TablePlaces.{tablePlaces}
 use Rattle.fan.proofs.TablePlacesLaws.{table-places, places-taken}
 
--- ---- the colours from 0 to D: enough for every step, and below the table's width
+-- ---- the colours from 0 to D: enough for every step
 
 pub palette : (n : ℕ) (ends : List ℕ) → Admitted n ends → Palette ends (edgeCount ends) n (InRange n ends)
 palette n ends a =
     let m = edgeCount ends in
     degree-palette ends m n (maxDegree ends m n) (omega (arith, max-degree-bound ends m n, a .edges)) (degree-max ends m n)
-
--- D is below the rows of the edge table, as it is below the number of nodes if there are any.
-pub max-degree-below : (n : ℕ) (ends : List ℕ) → Admitted n ends → maxDegree ends (edgeCount ends) n < 576
-unfolding maxDegree
-max-degree-below zero ends a = omega arith
-max-degree-below (suc n) ends a =
-    let m = edgeCount ends in
-    let r = max-degree-attained ends m (suc n) (omega arith) in
-    omega (arith, r .2, degree-below ends m (suc n) (a .simple) (a .inside) (r .0) (r .1), a .nodes)
 
 -- Laws of the step's parts, as the code has them: the path exchanged, the fan rotated, steps 2 to 5.
 

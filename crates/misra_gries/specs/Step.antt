@@ -1,18 +1,19 @@
 -- What the step of one edge asks and does, with its fan, its tally, and the run.
-use Prim.Native.Nat.{ℕ, _≤_, _<_, _+_}
+use Prim.Native.Nat.{ℕ, zero, suc, _≤_, _<_, _+_, _-_}
 use mathlib.Core.Path.{_≡_}
 use mathlib.Core.Logic.{_≢_}
 use mathlib.Core.List.{List}
-use lib.ListN.{length, getD, drop}
+use lib.ListN.{length, getD, drop, take}
 use mathlib.Core.Bool.{cond}
 use lib.Dec.{eqb, ltb}
 use Rattle.graph.specs.Edges.{firstEnd, edgesAt, edgeCount, secondEnd}
-use Rattle.graph.specs.Color.{noColor}
-use Rattle.vizing.specs.MisraGries.{isFree, fanOf, path, exchange, store, Found, find, step, heldAfter, held}
+use Rattle.graph.specs.Color.{noColor, Outcome, colored}
+use Rattle.vizing.specs.MisraGries.{isFree, fanOf, path, exchange, store, Found, find, step, greatestColor, Held, stepHeld}
 use Rattle.edge_table.specs.EdgeTable.{isEmpty, exchangedColors, rotatedColors}
 use Rattle.graph.specs.Stretch.{Table}
 use Rattle.vizing.specs.Demand3.{Admitted, maxDegree}
 use Rattle.vizing.specs.Step.{Invariant}
+use Rattle.vizing.specs.AddEdge.{storedChecks, storedList}
 use Rattle.repaint.specs.Repaint.{TableOf, Repaintable}
 use Rattle.vizing.specs.MisraGries as definition
 use Rattle.misra_gries.specs.declared.tally.Tally.{Tally}
@@ -122,15 +123,38 @@ pub record Tallied (n : ℕ) (ends starts entries work table marks : List ℕ) (
   pub stepped : Stepped n ends starts entries work table marks e color work′ table′ marks′
   pub noted : t′ ≡ notedOf t color
 
--- ---- The run: the working list, its table, the marks and the tally after k edges.
+-- ---- The run: the working list, its table, the marks and the tally before edge k's turn.
 
--- After k edges the working list and the tally are what the definition holds.
+-- The working list and the tally as the definition holds them.
+abbrev pub heldOf : List ℕ → Tally → Held
+heldOf work t = record { list = work; tally = tallyOf t }
+
+module _ (ends : List ℕ) (m n : ℕ) where
+  -- What is held after the steps of `count` edges from k on.
+  unfoldable pub stepsFrom : Held → ℕ → ℕ → Held
+  stepsFrom h k zero = h
+  stepsFrom h k (suc count) = stepsFrom (stepHeld ends m n h k) (suc k) count
+
+-- The first k edges have their colours, in range and sharing none, the table is theirs, and the tally counts them.
 pub record Running (n : ℕ) (ends starts entries work table marks : List ℕ) (t : Tally) (k : ℕ) : Type 0 where
   pub admitted : Admitted n ends
   pub rows : Table ends n starts entries
   pub bound : k ≤ edgeCount ends
-  pub list : work ≡ held n ends k
+  pub kept : Invariant ends (edgeCount ends) (InRange n ends) k work
   pub tabled : TableOf ends (edgeCount ends) work table
   pub size : edgeCount ends ≤ length marks
   pub unmarked : (j : ℕ) → getD marks j 0 < k + 1
-  pub tally : tallyOf t ≡ heldAfter ends (edgeCount ends) n k .tally
+  pub edges : t .edges ≡ k
+  pub greatest : t .greatest ≡ greatestColor work
+
+-- ---- All edges but those whose colours are stored
+
+-- The stored colours, in a working list and tallied.
+abbrev pub storedHeld : List ℕ → Held
+storedHeld stored = record { list = storedList stored; tally = record { edges = length stored; greatest = greatestColor stored } }
+
+-- Refused by 11 if the stored colours are not proper, or else the colours after the steps of all edges from the first without one on.
+unfoldable pub fromStored : ℕ → List ℕ → List ℕ → List ℕ → Outcome
+fromStored n ends stored lent =
+    let m = edgeCount ends in
+    colored (storedChecks n ends stored) lent (take m (stepsFrom ends m n (storedHeld stored) (length stored) (m - length stored) .list))

@@ -1,16 +1,17 @@
-// Misra-Gries edge colouring: each edge a colour from 0 to D, edges that share an end different ones.
+// Misra-Gries edge colouring: each edge a colour from 0 to D, edges that share an end different ones. All edges, or one more.
 ghost use mathlib.Core.Path.{_≡_};
-ghost use mathlib.Core.Bool.{cond};
-ghost use Prim.Native.Nat.{_+_};
+ghost use mathlib.Core.Bool.{_&&_};
+ghost use Prim.Native.Nat.{_≤_, _-_};
 ghost use lib.Dec.{eqb};
-ghost use lib.ListN.{length, take};
+ghost use lib.ListN.{length};
 ghost use Rattle.graph.specs.Report.{reportOfColoring};
 ghost use Rattle.graph.specs.Edges.{edgeCount};
-ghost use Rattle.graph.specs.Color.{daysOf};
 ghost use Rattle.graph.specs.Stretch.{Table};
-ghost use Rattle.vizing.specs.MisraGries.{held, misraGries};
+ghost use Rattle.vizing.specs.MisraGries.{misraGries};
 ghost use Rattle.vizing.specs.Demand3.{Admitted};
 ghost use Rattle.vizing.specs.Clause.{VizingColoring};
+ghost use Rattle.vizing.specs.AddEdge.{addEdge, EdgeAdded};
+ghost use Rattle.misra_gries.specs.Step.{fromStored};
 use edge_table::EdgeTable;
 use edge_table::Entry;
 use graph::Checked;
@@ -19,46 +20,72 @@ use graph::Coloring;
 use graph::Graph;
 use graph::Refusal;
 use graph::copy_colors;
+use run::days_of_tally;
 use run::run;
 use simple_graph::check_simple;
-use tally::Tally;
+use stored_colors::color_stored;
+use stored_colors::max_degree;
+use tally::tally_of;
 
 mod grow;
 mod run;
 mod steps;
 mod tally;
 
-// Days from the tally: the list is not gone through again.
-fn days_of_tally(tally: Tally) -> usize
-    ensures answer { λ r. ⌜ r ≡ cond (eqb (tally .edges) 0) 0 (tally .greatest + 1) ⌝ }
-{
-    if tally.edges == 0 {
-        return 0;
-    }
-    tally.greatest as usize + 1
-}
-
-// The run on an admitted list, its colours copied out. The answer is how many days they take.
-fn color_simple(
+// The edges without a stored colour get one, in turn, and all are copied out: all edges where nothing is stored, or the last. Both calls go by this
+// one function, so that the compiler merges the run into it and knows the arrays' sizes there. Nothing is written to the lent slice before 11.
+fn color_from(
     n: usize,
     ends: &[u16],
     starts: &[u16],
     entries: &[u16],
+    stored: &[u16],
     colors: &mut [u16],
-) -> usize
+) -> Coloring
     requires { ⌜ Admitted n (now ends) ⌝ }
     requires { ⌜ Table (now ends) n (now starts) (now entries) ⌝ }
+    requires { ⌜ length (now stored) ≤ edgeCount (now ends) ⌝ }
     requires { ⌜ length (now colors) ≡ edgeCount (now ends) ⌝ }
-    ensures answer { λ r. let ends = now (ends .entry) in ⌜ r ≡ daysOf (take (edgeCount ends) (held n ends (edgeCount ends))) ⌝ }
-    ensures colors { λ _. let ends = now (ends .entry) in ⌜ now (colors .exit) ≡ take (edgeCount ends) (held n ends (edgeCount ends)) ⌝ }
+    ensures report { λ r. let ends = now (ends .entry) in let stored = now (stored .entry) in let colors = now (colors .entry) in
+        ⌜ reportOfColoring r ≡ fromStored n ends stored colors .report ⌝ }
+    ensures colors { λ _. let ends = now (ends .entry) in let stored = now (stored .entry) in let colors₀ = now (colors .entry) in
+        ⌜ now (colors .exit) ≡ fromStored n ends stored colors₀ .colors ⌝ }
 {
     let mut work = [Color::NONE; Graph::MAX_EDGES];
     let mut table = [Entry::NONE; EdgeTable::PLACES];
+    let greatest = max_degree(n as u16, starts, entries);
+    if !color_stored(ends, stored, greatest, &mut work, &mut table) {
+        return Coloring::Refused(Refusal::BadStoredColors);
+    }
     let mut marks = [0u16; Graph::MAX_EDGES];
-    let tally = run(n, ends, starts, entries, &mut work, &mut table, &mut marks);
-    let m = ends.len() / 2;
-    copy_colors(&work[..m], colors);
-    days_of_tally(tally)
+    let tally = run(
+        tally_of(stored),
+        stored.len(),
+        n,
+        ends,
+        starts,
+        entries,
+        &mut work,
+        &mut table,
+        &mut marks,
+    );
+    let edges = ends.len() / 2;
+    copy_colors(&work[..edges], colors);
+    let days = days_of_tally(tally);
+    Coloring::Accepted { days }
+}
+
+// One stored colour fewer than edges, none for none, and a place for each edge.
+fn sizes_fit(m: usize, stored: usize, lent: usize) -> bool
+    ensures answer { λ r. ⌜ r ≡ (eqb stored (m - 1) && eqb lent m) ⌝ }
+{
+    if lent != m {
+        return false;
+    }
+    if m == 0 {
+        return stored == 0;
+    }
+    stored == m - 1
 }
 
 // Each edge gets a colour, by Misra and Gries 1992. A wrong length is told after the graph checks and before loops and double edges.
@@ -72,22 +99,28 @@ pub fn misra_gries_edge_color(n: usize, ends: &[u16], colors: &mut [u16]) -> Col
 {
     let mut starts = [0u16; Graph::STARTS];
     let mut entries = [0u16; Graph::ENTRIES];
-    match check_simple(n, ends, &mut starts, &mut entries) {
-        Checked::Refused(refusal) => {
-            if refusal.number() < 6 {
-                return Coloring::Refused(refusal);
-            }
-            if colors.len() == ends.len() / 2 {
-                return Coloring::Refused(refusal);
-            }
-            Coloring::Refused(Refusal::WrongLength)
-        }
-        Checked::Accepted(graph) => {
-            if colors.len() != graph.edges {
-                return Coloring::Refused(Refusal::WrongLength);
-            }
-            let days = color_simple(n, ends, &starts, &entries, colors);
-            Coloring::Accepted { days }
-        }
+    let sized = colors.len() == ends.len() / 2;
+    match check_simple(n, ends, sized, &mut starts, &mut entries) {
+        Checked::Refused(refusal) => Coloring::Refused(refusal),
+        Checked::Accepted(graph) => color_from(n, ends, &starts, &entries, &ends[..0], colors),
+    }
+}
+
+// The last edge gets a colour too, by the step that it has in the run over all edges, from the stored colours of the others. The step may
+// change those, as it does in the run.
+pub fn misra_gries_add_edge(n: usize, ends: &[u16], stored: &[u16], colors: &mut [u16]) -> Coloring
+    ensures report { λ r. let ends = now (ends .entry) in let stored = now (stored .entry) in let colors = now (colors .entry) in
+        ⌜ reportOfColoring r ≡ addEdge n ends stored colors .report ⌝ }
+    ensures colors { λ _. let ends = now (ends .entry) in let stored = now (stored .entry) in let colors₀ = now (colors .entry) in
+        ⌜ now (colors .exit) ≡ addEdge n ends stored colors₀ .colors ⌝ }
+    ensures added { λ r. let ends = now (ends .entry) in let stored = now (stored .entry) in let colors₀ = now (colors .entry) in
+        ⌜ EdgeAdded n ends stored colors₀ (reportOfColoring r) (now (colors .exit)) ⌝ }
+{
+    let mut starts = [0u16; Graph::STARTS];
+    let mut entries = [0u16; Graph::ENTRIES];
+    let sized = sizes_fit(ends.len() / 2, stored.len(), colors.len());
+    match check_simple(n, ends, sized, &mut starts, &mut entries) {
+        Checked::Refused(refusal) => Coloring::Refused(refusal),
+        Checked::Accepted(graph) => color_from(n, ends, &starts, &entries, stored, colors),
     }
 }

@@ -1,12 +1,18 @@
-// The run over all edges.
+// The run over the edges, all or the last.
+ghost use mathlib.Core.Path.{_≡_};
+ghost use mathlib.Core.Bool.{cond};
+ghost use Prim.Native.Nat.{_-_, _+_};
+ghost use lib.Dec.{eqb};
 ghost use Rattle.graph.specs.Edges.{edgeCount};
-ghost use Rattle.misra_gries.specs.Step.{Running};
+ghost use Rattle.misra_gries.specs.Step.{Running, heldOf, stepsFrom};
 use crate::tally::Tally;
 use crate::tally::step_by_value;
 use graph::EdgeIndex;
 
-// Colours every edge in turn, and tallies them.
+// Colours every edge from this one on in turn, and tallies them beside those before.
 pub(crate) fn run(
+    tally: Tally,
+    from: usize,
     n: usize,
     ends: &[u16],
     starts: &[u16],
@@ -15,19 +21,18 @@ pub(crate) fn run(
     table: &mut [u16],
     marks: &mut [u16],
 ) -> Tally
-    requires { ⌜ Running n (now ends) (now starts) (now entries) (now work) (now table) (now marks) (record { edges = 0; greatest = 0 }) 0 ⌝ }
+    requires { ⌜ Running n (now ends) (now starts) (now entries) (now work) (now table) (now marks) tally from ⌝ }
     ensures running { λ r. let ends = now (ends .entry) in let starts = now (starts .entry) in let entries = now (entries .entry) in
         ⌜ Running n ends starts entries (now (work .exit)) (now (table .exit)) (now (marks .exit)) r (edgeCount ends) ⌝ }
+    ensures held { λ r. let ends = now (ends .entry) in let work₀ = now (work .entry) in
+        ⌜ heldOf (now (work .exit)) r ≡ stepsFrom ends (edgeCount ends) n (heldOf work₀ tally) from (edgeCount ends - from) ⌝ }
 {
     let m = ends.len() / 2;
-    let mut tally = Tally {
-        edges: 0,
-        greatest: 0,
-    };
-    let mut k = 0;
+    let mut so_far = tally;
+    let mut k = from;
     while k < m {
-        tally = step_by_value(
-            tally,
+        so_far = step_by_value(
+            so_far,
             n,
             ends,
             starts,
@@ -39,5 +44,15 @@ pub(crate) fn run(
         );
         k += 1;
     }
-    tally
+    so_far
+}
+
+// Days from the tally: the list is not gone through again.
+pub(crate) fn days_of_tally(tally: Tally) -> usize
+    ensures answer { λ r. ⌜ r ≡ cond (eqb (tally .edges) 0) 0 (tally .greatest + 1) ⌝ }
+{
+    if tally.edges == 0 {
+        return 0;
+    }
+    tally.greatest as usize + 1
 }

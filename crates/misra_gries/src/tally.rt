@@ -2,14 +2,35 @@
 use crate::steps::step;
 use graph::Color;
 use graph::EdgeIndex;
+use graph::days_of;
 ghost use mathlib.Core.Path.{_≡_};
 ghost use Prim.Native.Nat.{_<_, _+_, _^_};
+ghost use lib.ListN.{length};
+ghost use Rattle.vizing.specs.MisraGries.{greatestColor};
 ghost use Rattle.misra_gries.specs.Step.{Ready, notedOf, Tallied};
 
 // Edges coloured, and the greatest colour that any edge has; both 0 before the first edge.
 pub(crate) struct Tally {
     pub edges: usize,
     pub greatest: u16,
+}
+
+// The tally of stored colours, one for each edge.
+pub(crate) fn tally_of(stored: &[u16]) -> Tally
+    ensures answer { λ r. let stored = now (stored .entry) in ⌜ (r .edges ≡ length stored) × (r .greatest ≡ greatestColor stored) ⌝ }
+{
+    let edges = stored.len();
+    let days = days_of(stored);
+    if days == 0 {
+        return Tally {
+            edges: edges,
+            greatest: 0,
+        };
+    }
+    Tally {
+        edges: edges,
+        greatest: (days - 1) as u16,
+    }
 }
 
 // One edge more, of this colour.

@@ -1,5 +1,5 @@
 -- The edge table stays the table of the working list: at the start, when an edge loses or takes a colour, and when edges take new colours in place of their own.
-use Prim.Native.Nat.{ℕ, _+_, _*_, _≤_, _<_, suc}
+use Prim.Native.Nat.{ℕ, _+_, _*_, _≤_, _<_, zero, suc}
 use mathlib.Core.Path.{_≡_, refl, sym, ap, subst, _∙_}
 use mathlib.Core.Logic.{_≢_, _⊎_, inl, inr}
 use mathlib.Core.List.{List, [], _∷_, map}
@@ -12,7 +12,7 @@ use borrow.Author.Tests.{lt-ltb, le-ltb, ne-eqb}
 use mathlib.Core.Option.{some}
 use lib.Dec.{eqb}
 use Rattle.lists.specs.Member.{Mem, Nodup}
-use Rattle.graph.specs.Edges.{edgesAt, firstEnd, secondEnd, At, farEnd}
+use Rattle.graph.specs.Edges.{edgesAt, firstEnd, secondEnd, At, farEnd, edgeCount}
 use Rattle.graph.proofs.EdgeLaws.{edge-at, at-edge}
 use Rattle.graph.specs.Color.{noColor}
 use Rattle.graph.specs.Colored.{colorOf, smallestFreeAt}
@@ -30,6 +30,9 @@ use Rattle.vizing.specs.Simple.{Incident}
 use Rattle.lists.proofs.MemberLaws.{dec-mem, mem-append, map-mem}
 use Rattle.vizing.proofs.StepForm.{rotatePlaces, stepParts, step-form}
 use Rattle.vizing.specs.Step.{Invariant}
+use Rattle.vizing.specs.Demand3.{maxDegree, Admitted}
+use Rattle.vizing.proofs.Theorem.{max-degree-attained}
+use Rattle.vizing.proofs.SimpleLaws.{degree-below}
 use Rattle.vizing.proofs.StepLaws.{FoundLaws}
 
 -- ---- when a list is the edge table of a working list, that it is so at the start, and what it then answers
@@ -54,7 +57,7 @@ empty-replicate N v c = elim (decLt v 512) [
 ]
 
 -- No edge is coloured and every place is empty.
-pub start-table : (ends : List ℕ) (m M N : ℕ) → FitsTable ends m → m ≤ M → N ≡ 294912 → TableOf ends m (replicate M noColor) (replicate N noEdge)
+start-table : (ends : List ℕ) (m M N : ℕ) → FitsTable ends m → m ≤ M → N ≡ 294912 → TableOf ends m (replicate M noColor) (replicate N noEdge)
 start-table ends m M N fits h e = record {
   fits = fits;
   work-size = rw (length-replicate M noColor) h;
@@ -64,6 +67,22 @@ start-table ends m M N fits h e = record {
   says = λ v c n. sym (reads-none (replicate N noEdge) v c noEdge (empty-replicate N v c) refl)
       ∙ sym (none-has-none (replicate M noColor) c (edgesAt ends m v) (λ k p z. n (sym z ∙ color-replicate M k)));
 }
+
+-- ---- a list that demand 3 admits
+
+-- D is below the rows of the edge table, as it is below the number of nodes if there are any.
+pub max-degree-below : (n : ℕ) (ends : List ℕ) → Admitted n ends → maxDegree ends (edgeCount ends) n < 576
+unfolding maxDegree
+max-degree-below zero ends a = omega arith
+max-degree-below (suc n) ends a =
+    let m = edgeCount ends in
+    let r = max-degree-attained ends m (suc n) (omega arith) in
+    omega (arith, r .2, degree-below ends m (suc n) (a .simple) (a .inside) (r .0) (r .1), a .nodes)
+
+pub admitted-table : (n : ℕ) (ends : List ℕ) → Admitted n ends → (N : ℕ) → N ≡ 294912 → TableOf ends (edgeCount ends) (replicate 4096 noColor) (replicate N noEdge)
+admitted-table n ends a N e = start-table ends (edgeCount ends) 4096 N
+    (record { edges = a .edges; nodes = λ k h. let r = a .inside k h in (omega (arith, r .0, a .nodes), omega (arith, r .1, a .nodes)) })
+    (a .edges) e
 
 -- ---- the answers
 
@@ -321,7 +340,7 @@ module _ (ends : List ℕ) (m : ℕ) (l T : List ℕ) (L : TableOf ends m l T) (
         only v at j p z = elim (dec-eq j k) [ inl q ↦ q | inr q ↦ absurd (free v (h, at) j (edge-at ends m v j p) (sym (color-set-other l k c j q) ∙ z)) ]
 
     -- Edge k, which has none, takes a colour that is free at its ends.
-    color-keeps : TableOf ends m (set l k c) (colored ends (state l T) k c .table)
+    pub color-keeps : TableOf ends m (set l k c) (colored ends (state l T) k c .table)
     unfolding colored
     color-keeps = record {
       fits = L .fits;

@@ -59,7 +59,7 @@ fn uncolor(ends: &[u16], work: &mut [u16], table: &mut [u16], edge: EdgeIndex)
 }
 
 // The edge, which has no colour, takes this one.
-fn color(ends: &[u16], work: &mut [u16], table: &mut [u16], edge: EdgeIndex, color: Color)
+pub fn color_edge(ends: &[u16], work: &mut [u16], table: &mut [u16], edge: EdgeIndex, color: Color)
     ensures state { λ _. let ends = now (ends .entry) in let work₀ = now (work .entry) in let table₀ = now (table .entry) in
         ⌜ state (now (work .exit)) (now (table .exit))
         ≡ colored ends (state work₀ table₀) (edge .0) (color .0) ⌝ }
@@ -92,7 +92,7 @@ fn color_all(ends: &[u16], work: &mut [u16], table: &mut [u16], edges: &[u16], c
         if colors.len() <= i {
             return;
         }
-        color(ends, work, table, EdgeIndex(edges[i]), Color(colors[i]));
+        color_edge(ends, work, table, EdgeIndex(edges[i]), Color(colors[i]));
         i += 1;
     }
 }

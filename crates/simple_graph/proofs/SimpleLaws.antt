@@ -2,12 +2,12 @@
 use Prim.Native.Nat.{ℕ, _+_, _*_, _≤_, _<_}
 use mathlib.Core.Path.{_≡_, refl, sym, _∙_}
 use mathlib.Core.List.{List, [], _∷_, _++_}
-use mathlib.Core.Bool.{true, false, true≢false, Bool}
+use mathlib.Core.Bool.{true, false, true≢false, Bool, not}
 use native.Mathlib.Omega.{arith}
 use native.Mathlib.Numerals.{add-one}
 use lib.ListN.{length, getD}
 use lib.Dec.{ltb, leb}
-use borrow.Author.Tests.{eq-eqb, ne-eqb, lt-ltb, le-ltb, le-leb, lt-leb}
+use borrow.Author.Tests.{eq-eqb, ne-eqb, lt-ltb, le-ltb, le-leb, lt-leb, not-false}
 use mathlib.Core.Option.{Option, none, some}
 use Rattle.lists.proofs.Tests.{by-test}
 use Rattle.lists.specs.Search.{any}
@@ -15,12 +15,14 @@ use Rattle.lists.proofs.SearchLaws.{any-false}
 use Rattle.graph.specs.Edges.{edgeCount, firstEnd, secondEnd, isLoop}
 use Rattle.vizing.specs.MisraGries.{hasLoop, hasDoubleEdge, simpleChecks}
 use Rattle.graph.specs.Report.{accepted, refused, number, reportOfChecked}
-use Rattle.graph.specs.Check.{Check, _gives_, firstRefusal, graphChecks, checkGraph}
-use Rattle.graph.proofs.CheckLaws.{passed, refused-first, passed-first, first-refuses, first-passes, all-passed, answered-refused, answered-accepted, checked-refused, checked-accepted, graph-refused, graph-accepted}
+use Rattle.graph.specs.Check.{Check, _gives_, firstRefusal, graphChecks, checkGraph, Passed}
+use Rattle.graph.proofs.CheckLaws.{passed, refused-first, passed-first, passed-both, passed-one, first-refuses, first-passes, all-passed, answered-refused, answered-accepted, checked-refused, checked-accepted, graph-refused, graph-accepted}
 use Rattle.graph.specs.declared.Refusal.{Refusal}
 use Rattle.graph.specs.declared.Graph.{Graph}
 use Rattle.graph.specs.declared.Checked.{Checked}
 use Rattle.graph.specs.declared.Checked.the-variants as C
+use Rattle.vizing.specs.Demand3.{Admitted}
+use Rattle.vizing.proofs.Theorem.{simple-admitted}
 use Rattle.simple_graph.specs.Simple.{checkSimple}
 
 -- ---- the search for a loop, edge by edge from the first
@@ -48,69 +50,81 @@ no-loop-all ends k e h b = let p : k ≡ edgeCount ends = omega arith in sym (rw
 -- ---- the graph checks and then those for loops and double edges: one law for each answer, and what the answer tells a caller
 
 -- A check that passes wherever those before it do may be left out.
-pub left-out : (b : Bool) (k : ℕ) (cs ds : List Check) → (firstRefusal cs ≡ none → b ≡ false) → firstRefusal (cs ++ (b gives k) ∷ ds) ≡ firstRefusal (cs ++ ds)
+left-out : (b : Bool) (k : ℕ) (cs ds : List Check) → (firstRefusal cs ≡ none → b ≡ false) → firstRefusal (cs ++ (b gives k) ∷ ds) ≡ firstRefusal (cs ++ ds)
 unfolding firstRefusal
 left-out b k [] ds h = simp (h refl)
 left-out b k ((true gives j) ∷ cs) ds h = refl
 left-out b k ((false gives j) ∷ cs) ds h = left-out b k cs ds h
 
-module _ (n : ℕ) (ends starts entries : List ℕ) where
+module _ (n : ℕ) (ends : List ℕ) (sized : Bool) (starts entries : List ℕ) where
   abbrev afterGraph : List Check
-  afterGraph = (leb (length starts) n gives 5) ∷ (ltb (length entries) (length ends) gives 5) ∷ simpleChecks ends
-
-  -- With room in both slices.
-  after-room : n < length starts → length ends ≤ length entries → firstRefusal afterGraph ≡ firstRefusal (simpleChecks ends)
-  after-room h l = first-passes (leb (length starts) n) 5 _ (lt-leb (length starts) n h) ∙ first-passes (ltb (length entries) (length ends)) 5 _ (le-ltb (length entries) (length ends) l)
+  afterGraph = (leb (length starts) n gives 5) ∷ (ltb (length entries) (length ends) gives 5) ∷ (not sized gives 5) ∷ simpleChecks ends
 
   -- ---- one law for each answer
 
-  refuses : (k : ℕ) → firstRefusal (graphChecks n ends ++ afterGraph) ≡ some k → refused k ≡ checkSimple n ends starts entries
+  refuses : (k : ℕ) → firstRefusal (graphChecks n ends ++ afterGraph) ≡ some k → refused k ≡ checkSimple n ends sized starts entries
   unfolding checkSimple
   refuses k e = answered-refused (graphChecks n ends ++ afterGraph) k _ e
 
-  pub graph-no : (c : Checked) (r : Refusal) → reportOfChecked c ≡ checkGraph n ends → c ≡ C.Refused r → refused (number r) ≡ checkSimple n ends starts entries
+  pub graph-no : (c : Checked) (r : Refusal) → reportOfChecked c ≡ checkGraph n ends → c ≡ C.Refused r → refused (number r) ≡ checkSimple n ends sized starts entries
   graph-no c r e p = refuses (number r) (refused-first (graphChecks n ends) afterGraph (number r) (graph-refused n ends c r e p))
 
   module _ (c : Checked) (g : Graph) (e : reportOfChecked c ≡ checkGraph n ends) (p : c ≡ C.Accepted g) where
     after : (o : Option ℕ) → firstRefusal afterGraph ≡ o → firstRefusal (graphChecks n ends ++ afterGraph) ≡ o
     after o q = passed-first (graphChecks n ends) afterGraph (graph-accepted n ends c g e p .0) ∙ q
 
-    pub starts-short : length starts ≤ n → refused 5 ≡ checkSimple n ends starts entries
+    pub starts-short : length starts ≤ n → refused 5 ≡ checkSimple n ends sized starts entries
     starts-short h = refuses 5 (after _ (first-refuses (leb (length starts) n) 5 _ (le-leb (length starts) n h)))
 
     module _ (rows : n < length starts) where
-      pub entries-short : length entries < length ends → refused 5 ≡ checkSimple n ends starts entries
+      pub entries-short : length entries < length ends → refused 5 ≡ checkSimple n ends sized starts entries
       entries-short h = refuses 5 (after _ (first-passes (leb (length starts) n) 5 _ (lt-leb (length starts) n rows) ∙ first-refuses (ltb (length entries) (length ends)) 5 _ (lt-ltb (length entries) (length ends) h)))
 
-      module _ (room : length ends ≤ length entries) (b : Bool) (f : b ≡ hasLoop ends (edgeCount ends)) where
-        pub loop-no : b ≡ true → refused 6 ≡ checkSimple n ends starts entries
-        loop-no h = refuses 6 (after _ (after-room rows room ∙ first-refuses (hasLoop ends (edgeCount ends)) 6 _ (sym f ∙ h)))
+      module _ (room : length ends ≤ length entries) where
+        after-room : firstRefusal afterGraph ≡ firstRefusal ((not sized gives 5) ∷ simpleChecks ends)
+        after-room = first-passes (leb (length starts) n) 5 _ (lt-leb (length starts) n rows) ∙ first-passes (ltb (length entries) (length ends)) 5 _ (le-ltb (length entries) (length ends) room)
 
-        module _ (h : b ≡ false) (d : Bool) (j : d ≡ hasDoubleEdge ends (edgeCount ends)) where
-          after-loop : (o : Option ℕ) → firstRefusal ((hasDoubleEdge ends (edgeCount ends) gives 7) ∷ []) ≡ o → firstRefusal (graphChecks n ends ++ afterGraph) ≡ o
-          after-loop o q = after _ (after-room rows room ∙ (first-passes (hasLoop ends (edgeCount ends)) 6 _ (sym f ∙ h) ∙ q))
+        pub size-no : not sized ≡ true → refused 5 ≡ checkSimple n ends sized starts entries
+        size-no h = refuses 5 (after _ (after-room ∙ first-refuses (not sized) 5 _ h))
 
-          pub double-no : d ≡ true → refused 7 ≡ checkSimple n ends starts entries
-          double-no k = refuses 7 (after-loop _ (first-refuses (hasDoubleEdge ends (edgeCount ends)) 7 [] (sym j ∙ k)))
+        module _ (size : not sized ≡ false) (b : Bool) (f : b ≡ hasLoop ends (edgeCount ends)) where
+          after-size : firstRefusal afterGraph ≡ firstRefusal (simpleChecks ends)
+          after-size = after-room ∙ first-passes (not sized) 5 _ size
 
-          pub simple-yes : d ≡ false → accepted (g .nodes, g .edges) ≡ checkSimple n ends starts entries
-          unfolding checkSimple
-          simple-yes k =
-              let q = graph-accepted n ends c g e p in
-              rw (q .1, q .2) (answered-accepted (graphChecks n ends ++ afterGraph) (n, edgeCount ends) (after-loop _ (first-passes (hasDoubleEdge ends (edgeCount ends)) 7 [] (sym j ∙ k) ∙ all-passed)))
+          pub loop-no : b ≡ true → refused 6 ≡ checkSimple n ends sized starts entries
+          loop-no h = refuses 6 (after _ (after-size ∙ first-refuses (hasLoop ends (edgeCount ends)) 6 _ (sym f ∙ h)))
+
+          module _ (h : b ≡ false) (d : Bool) (j : d ≡ hasDoubleEdge ends (edgeCount ends)) where
+            after-loop : (o : Option ℕ) → firstRefusal ((hasDoubleEdge ends (edgeCount ends) gives 7) ∷ []) ≡ o → firstRefusal (graphChecks n ends ++ afterGraph) ≡ o
+            after-loop o q = after _ (after-size ∙ (first-passes (hasLoop ends (edgeCount ends)) 6 _ (sym f ∙ h) ∙ q))
+
+            pub double-no : d ≡ true → refused 7 ≡ checkSimple n ends sized starts entries
+            double-no k = refuses 7 (after-loop _ (first-refuses (hasDoubleEdge ends (edgeCount ends)) 7 [] (sym j ∙ k)))
+
+            pub simple-yes : d ≡ false → accepted (g .nodes, g .edges) ≡ checkSimple n ends sized starts entries
+            unfolding checkSimple
+            simple-yes k =
+                let q = graph-accepted n ends c g e p in
+                rw (q .1, q .2) (answered-accepted (graphChecks n ends ++ afterGraph) (n, edgeCount ends) (after-loop _ (first-passes (hasDoubleEdge ends (edgeCount ends)) 7 [] (sym j ∙ k) ∙ all-passed)))
 
   -- ---- what the answer tells, where both slices have room for every table
 
-  module _ (c : Checked) (e : reportOfChecked c ≡ checkSimple n ends starts entries) (rows : 512 < length starts) (room : 8192 ≤ length entries) where
-    roomy : firstRefusal (graphChecks n ends ++ afterGraph) ≡ firstRefusal (graphChecks n ends ++ simpleChecks ends)
+  module _ (c : Checked) (e : reportOfChecked c ≡ checkSimple n ends sized starts entries) (rows : 512 < length starts) (room : 8192 ≤ length entries) where
+    roomy : firstRefusal (graphChecks n ends ++ afterGraph) ≡ firstRefusal (graphChecks n ends ++ (not sized gives 5) ∷ simpleChecks ends)
     roomy =
         left-out (leb (length starts) n) 5 (graphChecks n ends) _ (λ q. lt-leb (length starts) n (omega (arith, passed n ends q .nodes)))
         ∙ left-out (ltb (length entries) (length ends)) 5 (graphChecks n ends) _ (λ q. le-ltb (length entries) (length ends) (omega (arith, passed n ends q .even, passed n ends q .edges)))
 
-    pub simple-refused : (r : Refusal) → c ≡ C.Refused r → firstRefusal (graphChecks n ends ++ simpleChecks ends) ≡ some (number r)
+    pub simple-refused : (r : Refusal) → c ≡ C.Refused r → firstRefusal (graphChecks n ends ++ (not sized gives 5) ∷ simpleChecks ends) ≡ some (number r)
     unfolding checkSimple
     simple-refused r p = sym roomy ∙ checked-refused (graphChecks n ends ++ afterGraph) (n, edgeCount ends) c r e p
 
-    pub simple-accepted : (g : Graph) → c ≡ C.Accepted g → (firstRefusal (graphChecks n ends ++ simpleChecks ends) ≡ none) × (g .edges ≡ edgeCount ends)
+    -- No check refuses: what the tests of the caller's slices and of the list leave.
+    pub simple-accepted : (g : Graph) → c ≡ C.Accepted g → Passed n ends × Admitted n ends × (sized ≡ true)
     unfolding checkSimple
-    simple-accepted g p = let a = checked-accepted (graphChecks n ends ++ afterGraph) (n, edgeCount ends) c g e p in (sym roomy ∙ a .0, a .2)
+    simple-accepted g p =
+        let none-refuses = sym roomy ∙ checked-accepted (graphChecks n ends ++ afterGraph) (n, edgeCount ends) c g e p .0 in
+        let both = passed-both (graphChecks n ends) ((not sized gives 5) ∷ simpleChecks ends) none-refuses in
+        let size = passed-one (not sized) 5 (simpleChecks ends) (both .1) in
+        let q = passed n ends (both .0) in
+        (q, simple-admitted n ends q (size .1), not-false sized (size .0))

@@ -5,7 +5,6 @@ use mathlib.Core.Logic.{inl, inr}
 use mathlib.Core.List.{[], _∷_, List}
 use native.Mathlib.Omega.{arith}
 use lib.ListN.{take, replicate, length, length-replicate, length-take, getD}
-use mathlib.Core.Option.{Option, none, some}
 use native.Mathlib.Nat.{min-le-left}
 use lib.Seq.{length-take-le}
 use Rattle.lists.specs.Member.{elem}
@@ -17,10 +16,9 @@ use Rattle.graph.specs.Colored.{colorOf, isColored, coloredAmong, smallestFreeA
 use Rattle.vizing.specs.MisraGries.{edgeOfColor, isFree, store, joins, firstJoining, lastOf, fanFrom, fanOf, path, swap, exchange, firstFreePlace, rotate, find, step, stepHeld, heldAfter, held, hasLoop, sameEnds, hasDoubleEdge, misraGriesChecks, misraGries}
 use Rattle.vizing.specs.Simple.{Incident}
 use Rattle.vizing.specs.Demand3.{maxDegree, Admitted, Call, Demand3, Accurate}
-use Rattle.vizing.proofs.Theorem.{passed-admitted, misra-gries-colors, misra-gries-first, admitted-first, demand3, left-over}
+use Rattle.vizing.proofs.Theorem.{accepted-passed, passed-admitted, misra-gries-colors, misra-gries-first, admitted-first, demand3, left-over}
 use Rattle.vizing.specs.Demand3Examples.{triangle, listP13}
 use Rattle.graph.specs.Report.{accepted, refused, Accepted}
-use Rattle.graph.proofs.CheckLaws.{answered-refused}
 use Rattle.vizing.proofs.FirstEdges.{held-length, edge-count-take}
 use Rattle.vizing.specs.Clause.{Demand3Of, MeetsClause, ClauseIsClaim}
 use Rattle.vizing.specs.WrongCalls.{Falls, WrongCallsFall, refusesAll, allZero, leavesSlice, rising, fillsIn, filledP13}
@@ -126,11 +124,8 @@ demand3-clause call d n ends lent a l = record {
 -- Nothing but an admitted list with a place for each edge is accepted.
 accepted-admitted : (n : ℕ) (ends lent : List ℕ) (days : ℕ) → misraGries n ends lent .report ≡ accepted days → Admitted n ends × (length lent ≡ edgeCount ends)
 unfolding misraGries colored
-accepted-admitted n ends lent days e = go (firstRefusal (misraGriesChecks n ends lent)) refl
-  where
-    go : (o : Option ℕ) → firstRefusal (misraGriesChecks n ends lent) ≡ o → Admitted n ends × (length lent ≡ edgeCount ends)
-    go none f = passed-admitted n ends lent f
-    go (some k) f = let q = answered-refused (misraGriesChecks n ends lent) k (daysOf (take (edgeCount ends) (held n ends (edgeCount ends)))) f in let z : _≡_ {A = ℕ} 0 1 = cc in absurd (omega arith)
+accepted-admitted n ends lent days e =
+    passed-admitted n ends lent (accepted-passed (misraGriesChecks n ends lent) (daysOf (take (edgeCount ends) (held n ends (edgeCount ends)))) days e)
 
 pub misra-gries-clause : MeetsClause misraGries
 misra-gries-clause n ends lent = record { demand3 = demand3-clause misraGries demand3 n ends lent; admits = accepted-admitted n ends lent }

@@ -9,3 +9,4 @@ pub mod Theorem
 pub mod ClauseLaws
 pub mod SimpleLaws
 pub mod StepLaws
+pub mod AddEdgeLaws

@@ -9,8 +9,7 @@ use native.Mathlib.Decide.{decLt}
 use lib.ListN.{length}
 use lib.Dec.{eqb, ltb}
 use borrow.Author.Tests.{eqb-false, ne-eqb, ltb-true, ltb-false, not-true}
-use Rattle.vizing.specs.MisraGries.{Tally, greatestColor, heldAfter, find, step}
-use Rattle.vizing.proofs.DefinitionLaws.{step-list, step-edges, step-greatest}
+use Rattle.vizing.specs.MisraGries.{Tally, greatestColor, find, step}
 -- No name of it is used: the rows are to be checked before the laws, so that a wrong definition is refused for what it gives.
 use Rattle.vizing.specs.Answers
 use Rattle.lists.proofs.Tests.{by-test, and-true, true-and}
@@ -26,22 +25,9 @@ use Rattle.vizing.proofs.Fan.{lastEdge, Rotated, rotated-other, rotated
 use Rattle.vizing.proofs.StepLaws.{Palette, FoundLaws, found-laws}
 use Rattle.vizing.specs.Step.{Invariant}
 
--- ---- what the tally of a run says: the edges done, and the greatest colour that any of them has
-
 -- A tally is its two numbers.
 pub tally-same : (a b : Tally) → a .edges ≡ b .edges → a .greatest ≡ b .greatest → a ≡ b
 tally-same a b p q = ap₂ {C = Tally} (λ (x y : ℕ). record { edges = x; greatest = y }) p q
-
-module _ (ends : List ℕ) (m n : ℕ) where
-  pub tally-edges : (k : ℕ) → heldAfter ends m n k .tally .edges ≡ k
-  unfolding heldAfter
-  tally-edges zero = refl
-  tally-edges (suc k) = step-edges ends m n (heldAfter ends m n k) k ∙ ap suc (tally-edges k)
-
-  pub tally-greatest : (k : ℕ) → heldAfter ends m n k .tally .greatest ≡ greatestColor (heldAfter ends m n k .list)
-  unfolding heldAfter greatestColor
-  tally-greatest zero = refl
-  tally-greatest (suc k) = let h = heldAfter ends m n k in step-greatest ends m n h k ∙ ap greatestColor (sym (step-list ends m n h k))
 
 -- The greatest colour in use: a step raises it to the one colour that can be new, and never lowers it.
 

@@ -1,22 +1,23 @@
 -- Demand 3: the checks admit a list, and what the run gives for it.
 use Prim.Native.Nat.{ℕ, zero, suc, _≤_, _<_, _+_, _*_, _%_, _/_}
-use mathlib.Core.Path.{_≡_, sym, ap, _∙_}
+use mathlib.Core.Path.{_≡_, refl, sym, ap, _∙_}
 use mathlib.Core.Logic.{inl, inr, _≢_}
 use mathlib.Core.List.{List, [], _∷_}
 use native.Mathlib.Omega.{arith}
 use native.Mathlib.Nat.{not-suc-le-zero}
 use native.Mathlib.Decide.{decLt}
 use mathlib.Core.Bool.{not}
-use mathlib.Core.Option.{none}
+use mathlib.Core.Option.{Option, none, some}
 use lib.ListN.{length, getD, take}
+use lib.Seq.{length-take-le}
 use lib.Dec.{eqb}
 use borrow.Author.Tests.{eq-eqb, eqb-true, not-false}
 use Rattle.lists.proofs.Tests.{dec-eq}
 use Rattle.graph.specs.Edges.{degree, edgeCount, firstEnd, secondEnd, edgesAt}
 use Rattle.graph.proofs.TableLaws.{degree-bound}
 use Rattle.vizing.specs.Demand3.{maxDegree, Admitted, Accurate, FirstEdgesAlone, Demand3}
-use Rattle.graph.specs.Check.{_gives_, firstRefusal, graphChecks, lengthCheck, Passed}
-use Rattle.graph.proofs.CheckLaws.{passed, passes, passed-inside, passed-first, passed-both, passed-one, first-passes, all-passed, answered-accepted, written-accepted}
+use Rattle.graph.specs.Check.{Check, _gives_, firstRefusal, answered, graphChecks, lengthCheck, Passed}
+use Rattle.graph.proofs.CheckLaws.{passed, passes, passed-inside, passed-first, passed-both, passed-one, first-passes, all-passed, answered-accepted, answered-refused, written-accepted}
 use Rattle.vizing.specs.MisraGries.{hasLoop, hasDoubleEdge, simpleChecks, misraGriesChecks, held, misraGries}
 use Rattle.vizing.proofs.FirstEdges.{first-end-take, second-end-take, edge-count-take, held-length, held-uncolored, held-take}
 use Rattle.vizing.specs.Simple.{SameEnds, Incident}
@@ -24,12 +25,13 @@ use Rattle.vizing.proofs.SimpleLaws.{simple-no-loop, simple-no-double, 
 -- No name of it is used: the rows are to be checked before the laws, so that a wrong definition is refused for what it gives.
 use Rattle.vizing.specs.Answers
 use Rattle.graph.proofs.EdgeLaws.{at-edge}
-use Rattle.graph.specs.Report.{Accepted}
+use Rattle.graph.specs.Report.{accepted, Accepted}
 use Rattle.graph.specs.Color.{daysOf, colored}
 use Rattle.graph.specs.Colored.{colorOf, smallestFreeAt}
 use Rattle.graph.proofs.ColorLaws.{color-read, color-take, smallest-free-bound, smallest-none-has}
-use Rattle.vizing.proofs.StepLaws.{degree-palette, run-keeps}
+use Rattle.vizing.proofs.StepLaws.{Palette, degree-palette, run-keeps}
 use Rattle.vizing.specs.Step.{Invariant}
+use Rattle.vizing.specs.AddEdge.{ProperlyStored}
 
 -- ---- D
 
@@ -69,21 +71,32 @@ admitted-places n ends a i h =
       | inr p ↦ let e : i ≡ 2 * (i / 2) + 1 = omega arith in rw e (r .1)
     ]
 
-admitted-passed : (n : ℕ) (ends : List ℕ) → Admitted n ends → Passed n ends
+pub admitted-passed : (n : ℕ) (ends : List ℕ) → Admitted n ends → Passed n ends
 admitted-passed n ends a = record { nodes = a .nodes; even = a .even; edges = a .edges; inside = admitted-places n ends a }
+
+pub simple-passes : (n : ℕ) (ends : List ℕ) → Admitted n ends → firstRefusal (simpleChecks ends) ≡ none
+simple-passes n ends a =
+    let m = edgeCount ends in
+    first-passes (hasLoop ends m) 6 ((hasDoubleEdge ends m gives 7) ∷ []) (simple-no-loop ends m (a .simple))
+    ∙ first-passes (hasDoubleEdge ends m) 7 [] (simple-no-double ends m (a .simple))
+    ∙ all-passed
 
 pub checks-pass : (n : ℕ) (ends colors : List ℕ) → Admitted n ends → length colors ≡ edgeCount ends → firstRefusal (misraGriesChecks n ends colors) ≡ none
 unfolding misraGriesChecks
 checks-pass n ends colors a e =
     let m = edgeCount ends in
-    let double = (hasDoubleEdge ends m gives 7) ∷ [] in
     passed-first (graphChecks n ends) (lengthCheck (length colors) m ∷ simpleChecks ends) (passes n ends (admitted-passed n ends a))
     ∙ first-passes (not (eqb (length colors) m)) 5 (simpleChecks ends) (ap not (eq-eqb (length colors) m e))
-    ∙ first-passes (hasLoop ends m) 6 double (simple-no-loop ends m (a .simple))
-    ∙ first-passes (hasDoubleEdge ends m) 7 [] (simple-no-double ends m (a .simple))
-    ∙ all-passed
+    ∙ simple-passes n ends a
 
 -- ---- a list that passes is admitted
+
+pub accepted-passed : (cs : List Check) (value days : ℕ) → answered cs value ≡ accepted days → firstRefusal cs ≡ none
+accepted-passed cs value days e = go (firstRefusal cs) refl
+  where
+    go : (o : Option ℕ) → firstRefusal cs ≡ o → firstRefusal cs ≡ none
+    go none f = f
+    go (some k) f = let q = answered-refused cs k value f in let z : _≡_ {A = ℕ} 0 1 = cc in absurd (omega arith)
 
 pub simple-admitted : (n : ℕ) (ends : List ℕ) → Passed n ends → firstRefusal (simpleChecks ends) ≡ none → Admitted n ends
 simple-admitted n ends p e =
@@ -170,30 +183,52 @@ left-over n ends a l v h =
 
 -- ---- demand 3
 
--- What the run holds after k edges: edges sharing an end differ, and the first k have colours from 0 to D.
-kept : (n : ℕ) (ends : List ℕ) → Admitted n ends → (k : ℕ) → k ≤ edgeCount ends → Invariant ends (edgeCount ends) (λ c. c ≤ maxDegree ends (edgeCount ends) n) k (held n ends k)
-unfolding held
-kept n ends a =
+-- The colours from 0 to D are enough for a step.
+pub admitted-palette : (n : ℕ) (ends : List ℕ) → Admitted n ends → Palette ends (edgeCount ends) n (λ c. c ≤ maxDegree ends (edgeCount ends) n)
+admitted-palette n ends a =
     let m = edgeCount ends in
-    run-keeps ends m n (λ c. c ≤ maxDegree ends m n) (a .simple) (a .inside) (a .edges)
-    (degree-palette ends m n (maxDegree ends m n) (omega (arith, max-degree-bound ends m n, a .edges)) (degree-max ends m n))
+    degree-palette ends m n (maxDegree ends m n) (omega (arith, max-degree-bound ends m n, a .edges)) (degree-max ends m n)
 
-accurate : (n : ℕ) (ends : List ℕ) → Admitted n ends → Accurate n ends (take (edgeCount ends) (held n ends (edgeCount ends)))
-accurate n ends a =
+-- What the run holds after k edges: edges sharing an end differ, and the first k have colours from 0 to D.
+pub kept : (n : ℕ) (ends : List ℕ) → Admitted n ends → (k : ℕ) → k ≤ edgeCount ends → Invariant ends (edgeCount ends) (λ c. c ≤ maxDegree ends (edgeCount ends) n) k (held n ends k)
+unfolding held
+kept n ends a = let m = edgeCount ends in run-keeps ends m n (λ c. c ≤ maxDegree ends m n) (a .simple) (a .inside) (a .edges) (admitted-palette n ends a)
+
+-- The first k colours of any list that meets this are properly stored,
+pub kept-proper : (n : ℕ) (ends : List ℕ) → Admitted n ends → (k : ℕ) → k ≤ edgeCount ends → (l : List ℕ)
+    → Invariant ends (edgeCount ends) (λ c. c ≤ maxDegree ends (edgeCount ends) n) k l → ProperlyStored n ends (take k l)
+kept-proper n ends a k few l I =
     let m = edgeCount ends in
-    let l = held n ends m in
+    let size : length (take k l) ≡ k = length-take-le k l (omega (arith, I .size, a .edges)) in
     record {
-      range = λ k h. rw (color-take l m k h) (kept n ends a m (omega arith) .done k h);
+      range = λ j h. let b : j < k = omega (arith, h, size) in rw (color-take l k j b) (I .done j b);
       sharing = λ i j v p q differ e.
-          differ (kept n ends a m (omega arith) .proper i j v p q
-          (λ z. omega (arith, kept n ends a m (omega arith) .done i (p .0), max-degree-bound ends m n, a .edges))
-          (sym (color-take l m i (p .0)) ∙ e ∙ color-take l m j (q .0)));
+          let hi : i < k = omega (arith, p .0, size) in
+          let hj : j < k = omega (arith, q .0, size) in
+          differ (I .proper i j v (omega (arith, hi, few), p .1) (omega (arith, hj, few), q .1)
+          (λ z. omega (arith, I .done i hi, max-degree-bound ends m n, a .edges))
+          (sym (color-take l k i hi) ∙ e ∙ color-take l k j hj));
+    }
+
+-- and after the last edge they are accurate.
+pub kept-accurate : (n : ℕ) (ends : List ℕ) → Admitted n ends → (l : List ℕ)
+    → Invariant ends (edgeCount ends) (λ c. c ≤ maxDegree ends (edgeCount ends) n) (edgeCount ends) l → Accurate n ends (take (edgeCount ends) l)
+kept-accurate n ends a l I =
+    let m = edgeCount ends in
+    let size : length (take m l) ≡ m = length-take-le m l (omega (arith, I .size, a .edges)) in
+    let p = kept-proper n ends a m (omega arith) l I in
+    record {
+      range = λ k h. p .range k (omega (arith, h, size));
+      sharing = λ i j v at-i at-j. p .sharing i j v (omega (arith, at-i .0, size), at-i .1) (omega (arith, at-j .0, size), at-j .1);
       leftOver = left-over n ends a (take m l);
     }
+
+pub run-accurate : (n : ℕ) (ends : List ℕ) → Admitted n ends → Accurate n ends (take (edgeCount ends) (held n ends (edgeCount ends)))
+run-accurate n ends a = let m = edgeCount ends in kept-accurate n ends a (held n ends m) (kept n ends a m (omega arith))
 
 pub demand3 : Demand3 misraGries held
 demand3 n ends colors a e = record {
   accepts = misra-gries-accepts n ends colors a e;
-  accurate = rw (misra-gries-colors n ends colors a e) (accurate n ends a);
+  accurate = rw (misra-gries-colors n ends colors a e) (run-accurate n ends a);
   first = misra-gries-first n ends a;
 }

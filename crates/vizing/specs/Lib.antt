@@ -1,4 +1,4 @@
--- Misra-Gries edge colouring: the definitions, what holds at each step, the claim of demand 3 and the clause of the call's contract.
+-- Misra-Gries edge colouring: the definitions, what holds at each step, the claim of demand 3 and the clause of the call's contract; one edge more.
 pub mod MisraGries
 pub mod Answers
 pub mod Simple
@@ -7,4 +7,6 @@ pub mod Step
 pub mod Demand3
 pub mod Clause
 pub mod Demand3Examples
+pub mod AddEdge
+pub mod AddEdgeAnswers
 pub mod WrongCalls

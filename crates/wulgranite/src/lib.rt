@@ -2,7 +2,7 @@
 // one another, each a part of a call here: the checks (`check_nodes`, `check_edges`, `check_items`, `check_simple`), the strategies one by one,
 // among which `ColoringStrategy` chooses, the smallest free colour of a node and of an edge (smallest_color), nodes or edges as
 // items (items) and their marks (color_marks), Saturation's next item (`choose`), a part of an edge's neighbours (`part_at`), the steps of Misra-Gries
-// (edge_table, repaint, fan, recolor), the layout of a file and its numbers (`layout_of`, `copy_numbers`), `incidence_front`, `days_of`, `copy_colors`,
+// (edge_table, repaint, fan, recolor, stored_colors), the layout of a file and its numbers (`layout_of`, `copy_numbers`), `incidence_front`, `days_of`, `copy_colors`,
 // `end_at` and `step_at`.
 // `matchday_text` is left out too: its text is the program's, not a colouring.
 pub use edge_walk::EdgeWalk;
@@ -33,6 +33,7 @@ pub use line_graph::LineList;
 pub use line_graph::edge_of_node;
 pub use line_graph::line_graph;
 pub use line_graph::node_of_edge;
+pub use misra_gries::misra_gries_add_edge;
 pub use misra_gries::misra_gries_edge_color;
 pub use two_color::two_color;
 pub use write_graph_file::WriteAnswer;

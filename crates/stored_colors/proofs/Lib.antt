@@ -1,0 +1,3 @@
+-- Laws of what specs/ defines.
+pub mod StoredLaws
+pub mod StoredTableLaws

@@ -1,0 +1,93 @@
+-- Laws of D, and of the stored colours in the working list and the table.
+use Prim.Native.Nat.{ℕ, suc, _+_, _*_, _-_, _≤_, _<_, max}
+use mathlib.Core.Path.{_≡_, refl, sym, ap, _∙_}
+use mathlib.Core.List.{List, _∷_}
+use mathlib.Core.Bool.{Bool, true, false, not}
+use native.Mathlib.Omega.{arith}
+use native.Mathlib.Numerals.{add-one}
+use lib.ListN.{length, getD, drop, drop-of-length-le}
+use lib.Seq.{drop-cons}
+use lib.Dec.{ltb}
+use borrow.Author.Tests.{lt-ltb, le-ltb, not-true, not-false}
+use Rattle.lists.proofs.Tests.{and-false}
+use Rattle.graph.specs.Edges.{firstEnd, secondEnd}
+use Rattle.graph.specs.Stretch.{stretch}
+use Rattle.edge_table.specs.EdgeTable.{isEmpty}
+use Rattle.repaint.specs.Repaint.{State, state, colored}
+use Rattle.stored_colors.specs.Stored.{longestStretch, mayTake, Stored, storedFrom, colorStored}
+
+-- ---- D, node by node
+
+pub longest-none : (starts entries : List ℕ) → 0 ≡ longestStretch starts entries 0
+unfolding longestStretch
+longest-none starts entries = refl
+
+longest-next : (starts entries : List ℕ) (v : ℕ) → longestStretch starts entries (v + 1) ≡ max (length (stretch starts entries v)) (longestStretch starts entries v)
+unfolding longestStretch
+longest-next starts entries v = rw (add-one v)
+
+module _ (starts entries : List ℕ) (v most : ℕ) (e : most ≡ longestStretch starts entries v) (near : List ℕ) (p : near ≡ stretch starts entries v) where
+  pub longest-more : most < length near → length near ≡ longestStretch starts entries (v + 1)
+  longest-more h = omega (arith, longest-next starts entries v, ap length p)
+
+  pub longest-same : length near ≤ most → most ≡ longestStretch starts entries (v + 1)
+  longest-same h = omega (arith, longest-next starts entries v, ap length p)
+
+-- No node is left.
+pub longest-all : (starts entries : List ℕ) (n v most : ℕ) → most ≡ longestStretch starts entries v → v ≤ n → n ≤ v → most ≡ longestStretch starts entries n
+longest-all starts entries n v most e h b = let p : v ≡ n = omega arith in rw p at e
+
+-- ---- whether an edge may take a colour, by what the code asks
+
+module _ (ends T : List ℕ) (k c greatest : ℕ) where
+  pub above-greatest : greatest < c → false ≡ mayTake ends T k c greatest
+  unfolding mayTake
+  above-greatest h = simp (lt-ltb greatest c h)
+
+  module _ (u : ℕ) (pu : u ≡ getD ends (2 * k) 0) (b : Bool) (pb : b ≡ isEmpty T u c) where
+    at-first : b ≡ isEmpty T (firstEnd ends k) c
+    unfolding firstEnd
+    at-first = pb ∙ ap (λ (x : ℕ). isEmpty T x c) pu
+
+    pub taken-at-first : not b ≡ true → false ≡ mayTake ends T k c greatest
+    unfolding mayTake
+    taken-at-first h = rw (← at-first, not-true b h) (sym (and-false (not (ltb greatest c)) false refl))
+
+    pub by-second : c ≤ greatest → not b ≡ false → (w : ℕ) → w ≡ getD ends (2 * k + 1) 0 → (d : Bool) → d ≡ isEmpty T w c → d ≡ mayTake ends T k c greatest
+    unfolding mayTake secondEnd
+    by-second low h w pw d pd = rw (← at-first, le-ltb greatest c low, not-false b h, ← pw) pd
+
+-- ---- one edge after the other, as the code goes on with it
+
+module _ (ends stored : List ℕ) (greatest : ℕ) (s : State) where
+  pub too-many : 4096 < length stored → (false ≡ colorStored ends stored greatest s .all) × (s ≡ colorStored ends stored greatest s .state)
+  unfolding colorStored
+  too-many h = rw (lt-ltb 4096 (length stored) h) (refl, refl)
+
+  pub stored-start : length stored ≤ 4096 → storedFrom ends greatest s 0 (drop 0 stored) ≡ colorStored ends stored greatest s
+  unfolding colorStored
+  stored-start h = rw (le-ltb 4096 (length stored) h)
+
+module _ (ends : List ℕ) (greatest : ℕ) (s : State) (k c : ℕ) (cs : List ℕ) where
+  from-stop : mayTake ends (s .table) k c greatest ≡ false → storedFrom ends greatest s k (c ∷ cs) ≡ record { all = false; state = s }
+  unfolding storedFrom
+  from-stop p = rw (p, storedFrom)
+
+  from-next : mayTake ends (s .table) k c greatest ≡ true → storedFrom ends greatest s k (c ∷ cs) ≡ storedFrom ends greatest (colored ends s k c) (suc k) cs
+  unfolding storedFrom
+  from-next p = rw (p, storedFrom)
+
+module _ (ends stored : List ℕ) (greatest : ℕ) (s : State) (k : ℕ) (r : Stored) (e : storedFrom ends greatest s k (drop k stored) ≡ r) where
+  module _ (h : k < length stored) (b : Bool) (pb : b ≡ mayTake ends (s .table) k (getD stored k 0) greatest) where
+    pub stored-stop : not b ≡ true → (false ≡ r .all) × (s ≡ r .state)
+    stored-stop q =
+        let f = sym (from-stop ends greatest s k (getD stored k 0) (drop (suc k) stored) (sym pb ∙ not-true b q)) ∙ (rw (drop-cons stored k 0 h) at e) in
+        (ap (λ (x : Stored). x .all) f, ap (λ (x : Stored). x .state) f)
+
+    pub stored-next : not b ≡ false → (s′ : State) → s′ ≡ colored ends s k (getD stored k 0) → storedFrom ends greatest s′ (k + 1) (drop (k + 1) stored) ≡ r
+    stored-next q s′ p =
+        rw (add-one k, p) (sym (from-next ends greatest s k (getD stored k 0) (drop (suc k) stored) (sym pb ∙ not-false b q)) ∙ (rw (drop-cons stored k 0 h) at e))
+
+  pub stored-end : length stored ≤ k → (true ≡ r .all) × (s ≡ r .state)
+  unfolding storedFrom
+  stored-end h = let f = rw (drop-of-length-le stored {i = k} h) at e in (ap (λ (x : Stored). x .all) f, ap (λ (x : Stored). x .state) f)
