@@ -32,8 +32,9 @@ impl<'a> Entrant<'a> {
 }
 
 /// The calls, each with the title of its table.
-pub const CALLS: [(&str, Call); 9] = [
+pub const CALLS: [(&str, Call); 10] = [
     ("misra_gries_edge_color", Call::MisraGries),
+    ("misra_gries_add_edge", Call::AddEdge),
     ("greedy edges, Degree", Call::EdgeColor(Degree)),
     ("greedy edges, Saturation", Call::EdgeColor(Saturation)),
     (
@@ -66,6 +67,14 @@ pub fn entrants(graph: &Graph, call: Call) -> Vec<Entrant<'_>> {
         Call::EdgeColor(Saturation) | Call::NodeColor(Saturation)
     );
     let mut entrants = vec![Entrant::new("port", Check::Equal, Port::new(graph, call))];
+    if call == Call::AddEdge {
+        // The whole list afresh, which must come to the same.
+        let port = Port::new(graph, Call::MisraGries);
+        let rust = Rust::new(graph, Call::MisraGries);
+        entrants.push(Entrant::new("port, whole run", Check::Equal, port));
+        entrants.push(Entrant::new("Rust, whole run", Check::Equal, rust));
+        return entrants;
+    }
     let rust = if saturation { "Rust, scan" } else { "Rust" };
     entrants.push(Entrant::new(rust, Check::Equal, Rust::new(graph, call)));
     if saturation {

@@ -16,6 +16,8 @@ use crate::graphs::Graph;
 #[derive(Clone, Copy, PartialEq)]
 pub enum Call {
     MisraGries,
+    /// The last edge, after the colours that the others have without it.
+    AddEdge,
     EdgeColor(ColoringStrategy),
     NodeColor(ColoringStrategy),
     TwoColor,
@@ -37,6 +39,7 @@ pub trait Subject {
 pub struct Port<'a> {
     graph: &'a Graph,
     call: Call,
+    /// The stored colours, for a late match.
     presets: Vec<u16>,
     numbers: Vec<u16>,
     bytes: Vec<u8>,
@@ -46,19 +49,31 @@ pub struct Port<'a> {
 impl<'a> Port<'a> {
     pub fn new(graph: &'a Graph, call: Call) -> Self {
         let length = match call {
-            Call::MisraGries | Call::EdgeColor(_) => graph.edge_count(),
+            Call::MisraGries | Call::AddEdge | Call::EdgeColor(_) => graph.edge_count(),
             Call::NodeColor(_) | Call::TwoColor => graph.n,
             Call::LineGraph => 2 * graph.pair_count(),
         };
         Port {
             graph,
             call,
-            presets: vec![wulgranite::NONE; length],
+            presets: match call {
+                Call::AddEdge => colors_without_last(graph),
+                _ => vec![wulgranite::NONE; length],
+            },
             numbers: vec![wulgranite::NONE; length],
             bytes: vec![u8::MAX; length],
             report: Ok(0),
         }
     }
+}
+
+/// The port's colours of all edges but the last.
+fn colors_without_last(graph: &Graph) -> Vec<u16> {
+    let count = graph.edge_count() - 1;
+    let mut colors = vec![wulgranite::NONE; count];
+    wulgranite::misra_gries_edge_color(graph.n, &graph.ends[..2 * count], &mut colors)
+        .unwrap_or_else(|why| panic!("{}: {why}", graph.name));
+    colors
 }
 
 impl Subject for Port<'_> {
@@ -67,6 +82,7 @@ impl Subject for Port<'_> {
         let (presets, numbers) = (&self.presets, &mut self.numbers[..]);
         self.report = match self.call {
             Call::MisraGries => wulgranite::misra_gries_edge_color(n, ends, numbers),
+            Call::AddEdge => wulgranite::misra_gries_add_edge(n, ends, presets, numbers),
             Call::EdgeColor(strategy) => wulgranite::greedy_edge_color_with_coloring_strategy(
                 n, ends, presets, strategy, numbers,
             ),
@@ -157,6 +173,7 @@ fn no_preset<T>(_: T) -> Result<Option<usize>, Infallible> {
 fn published(graph: &UnGraph<(), ()>, call: Call) -> Published {
     match call {
         Call::MisraGries => Published::Edges(coloring::misra_gries_edge_color(graph)),
+        Call::AddEdge => unreachable!("the Rust has no such call"),
         Call::EdgeColor(by) => Published::Edges(
             coloring::greedy_edge_color_with_coloring_strategy(graph, no_preset, strategy(by))
                 .unwrap(),

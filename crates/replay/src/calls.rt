@@ -7,6 +7,7 @@ use greedy_color::greedy_edge_color_with_coloring_strategy;
 use greedy_color::greedy_node_color;
 use greedy_color::greedy_node_color_with_coloring_strategy;
 use greedy_color::greedy_node_color_with_preset_colors;
+use misra_gries::misra_gries_add_edge;
 use misra_gries::misra_gries_edge_color;
 use replay_calls::put_colored;
 use replay_input::Line;
@@ -44,11 +45,13 @@ fn put_name(text: &mut [u8], waiting: usize, name: Name) -> usize {
         Name::GreedyEdgeColorWithColoringStrategy => {
             put_all(text, waiting, b"greedy_edge_color_with_coloring_strategy")
         }
+        Name::MisraGriesAddEdge => put_all(text, waiting, b"misra_gries_add_edge"),
         _ => put_all(text, waiting, b"misra_gries_edge_color"),
     }
 }
 
-// The line's colouring, by the strategy that its first number names where it has one.
+// The line's colouring, by the strategy that its first number names where it has one. A late match's stored colours are those of the
+// presets line.
 fn color(n: usize, ends: &[u16], presets: &[u16], line: Line, colors: &mut [u16]) -> Coloring {
     let strategy = strategy_of(line.first);
     let name = line.name;
@@ -64,6 +67,7 @@ fn color(n: usize, ends: &[u16], presets: &[u16], line: Line, colors: &mut [u16]
         Name::GreedyEdgeColorWithColoringStrategy => {
             greedy_edge_color_with_coloring_strategy(n, ends, presets, strategy, colors)
         }
+        Name::MisraGriesAddEdge => misra_gries_add_edge(n, ends, presets, colors),
         _ => misra_gries_edge_color(n, ends, colors),
     }
 }
@@ -135,7 +139,8 @@ fn call_colorings(
         Name::GreedyNodeColor
         | Name::GreedyNodeColorWithPresetColors
         | Name::GreedyEdgeColor
-        | Name::MisraGriesEdgeColor => {
+        | Name::MisraGriesEdgeColor
+        | Name::MisraGriesAddEdge => {
             call_coloring(text, waiting, n, ends, presets, line, line.first, list)
         }
         _ => waiting,

@@ -19,6 +19,7 @@ pub enum Name {
     GreedyEdgeColor,
     GreedyEdgeColorWithColoringStrategy,
     MisraGriesEdgeColor,
+    MisraGriesAddEdge,
     File,
     ReadGraphFile,
     WriteGraphFile,
@@ -67,6 +68,9 @@ fn coloring_of(word: &[u8]) -> Name {
     }
     if same(word, b"misra_gries_edge_color") {
         return Name::MisraGriesEdgeColor;
+    }
+    if same(word, b"misra_gries_add_edge") {
+        return Name::MisraGriesAddEdge;
     }
     Name::Unknown
 }

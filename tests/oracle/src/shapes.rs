@@ -1,4 +1,4 @@
-//! Random numbers and the graphs that the oracle's programs make.
+//! Random numbers, and the graphs and colours that the oracle's programs make.
 
 /// Splitmix64: short, and the same everywhere.
 pub struct Random(pub u64);
@@ -73,4 +73,36 @@ pub fn simple(random: &mut Random, n: u16, m: usize) -> Edges {
 
 pub fn flat(edges: &[(u16, u16)]) -> Vec<u16> {
     edges.iter().flat_map(|&(u, v)| [u, v]).collect()
+}
+
+/// Colours from 0 to the greatest, edges that share an end having different ones: the edges take them in a random order, each
+/// one of those that are left at both ends. Nothing where an edge finds none.
+pub fn proper_colors(random: &mut Random, edges: &[(u16, u16)], greatest: u16) -> Option<Vec<u16>> {
+    let mut order: Vec<usize> = (0..edges.len()).collect();
+    random.shuffle(&mut order);
+    let mut colors = vec![None; edges.len()];
+    for k in order {
+        let (u, v) = edges[k];
+        let touches = |&(a, b): &(u16, u16)| a == u || a == v || b == u || b == v;
+        let around = edges.iter().zip(&colors).filter(|(e, _)| touches(e));
+        let taken: Vec<u16> = around.filter_map(|(_, &color)| color).collect();
+        let left: Vec<u16> = (0..=greatest)
+            .filter(|color| !taken.contains(color))
+            .collect();
+        if left.is_empty() {
+            return None;
+        }
+        colors[k] = Some(left[random.below(left.len())]);
+    }
+    colors.into_iter().collect()
+}
+
+/// The colours, from 0 to the greatest, under other names of the same range.
+pub fn renamed(random: &mut Random, colors: &[u16], greatest: u16) -> Vec<u16> {
+    let mut names: Vec<u16> = (0..=greatest).collect();
+    random.shuffle(&mut names);
+    colors
+        .iter()
+        .map(|&color| names[usize::from(color)])
+        .collect()
 }

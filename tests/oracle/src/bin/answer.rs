@@ -1,6 +1,6 @@
 //! Reads cases on standard input and prints what the Rust answers, one line for each call; README.md has the format.
-//! Where document 01 or 02 refuses, the number is theirs, and files are read and written as rules.rs does; every other
-//! answer is that of the unchanged published code.
+//! Where document 01 or 02 refuses, the number is theirs; files are read and written, and late matches coloured, as
+//! rules.rs does; every other answer is that of the unchanged published code.
 
 use std::fmt::Display;
 use std::io::{BufWriter, Read, Write};
@@ -128,7 +128,12 @@ fn put<K: Copy + Eq + std::hash::Hash>(
         assert!(color < rules::NONE.into());
         *place = color as u16;
     }
-    Report::Days(slice.now.iter().max().map_or(0, |&c| usize::from(c) + 1))
+    days(&slice.now)
+}
+
+/// The greatest colour plus one, or 0 if there is none.
+fn days<T: Copy + Ord + Into<usize>>(colors: &[T]) -> Report {
+    Report::Days(colors.iter().max().map_or(0, |&color| color.into() + 1))
 }
 
 fn strategy(number: u8, presets: &[u16]) -> ColoringStrategy {
@@ -215,7 +220,7 @@ fn two_color(graph: &Graph, colors: &mut Lent<u8>) -> Report {
     for (i, place) in colors.now.iter_mut().enumerate() {
         *place = map[&NodeIndex::new(i)];
     }
-    Report::Days(colors.now.iter().max().map_or(0, |&c| usize::from(c) + 1))
+    days(&colors.now)
 }
 
 fn line_list(graph: &Graph, list: &mut Lent<u16>) -> Report {
@@ -303,6 +308,26 @@ fn misra_gries(graph: &Graph, colors: &mut Lent<u16>) -> Report {
         EdgeIndex::new,
         colors,
     )
+}
+
+/// What rules.rs has; where the stored colours are the Rust's for the edges before the last, the Rust's own run over all
+/// edges must have the same colours.
+fn add_edge(graph: &Graph, stored: &[u16], colors: &mut Lent<u16>) -> Report {
+    match rules::add_edge(graph.n, &graph.ends, stored, colors.now.len()) {
+        Err(number) => return Report::Refused(number),
+        Ok(added) => colors.now = added,
+    }
+    if graph.m() > 0 {
+        let before = Graph::new(graph.n, graph.ends[..2 * stored.len()].to_vec());
+        let mut held = Lent::new(stored.len(), rules::lent_number);
+        misra_gries(&before, &mut held);
+        if held.now == stored {
+            let mut whole = Lent::new(graph.m(), rules::lent_number);
+            misra_gries(graph, &mut whole);
+            assert_eq!(colors.now, whole.now, "a late match and the whole run");
+        }
+    }
+    days(&colors.now)
 }
 
 /// What both file calls promise: where the graph checks pass, a file's contents are written with its bytes.
@@ -531,6 +556,7 @@ fn main() {
                 edge_color(&graph, form, &presets, &mut slice)
             }
             "misra_gries_edge_color" => misra_gries(&graph, &mut slice),
+            "misra_gries_add_edge" => add_edge(&graph, &presets, &mut slice),
             _ => panic!("line {}: no call {name:?}", i + 1),
         };
         writeln!(out, "{name} {report}: {slice}").unwrap();

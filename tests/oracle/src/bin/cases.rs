@@ -1,12 +1,15 @@
 //! Writes the case file, the same bytes each time: `cases FAMILY ..` with the families incidence, two_color,
-//! line_graph, node_color, edge_color, misra_gries, file. All cases are made and only then sifted by family, so switching a
-//! family on alters no line of another.
+//! line_graph, node_color, edge_color, misra_gries, late, file. All cases are made and only then sifted by family, so
+//! switching a family on alters no line of another.
 
 use std::io::Write;
 
+use petgraph::graph::{EdgeIndex, NodeIndex, UnGraph};
+use rustworkx_core::coloring::misra_gries_edge_color;
 use rustworkx_core::rules::{self, field_bytes, Saved, COLORS_TOLD, METHOD_TOLD, NONE};
 use rustworkx_core::shapes::{
-    bipartite, complete, cycle, flat, mixed, path, simple, star, Edges, Random,
+    bipartite, complete, cycle, flat, mixed, path, proper_colors, renamed, simple, star, Edges,
+    Random,
 };
 
 #[derive(Clone, Copy, PartialEq)]
@@ -17,6 +20,7 @@ enum Family {
     NodeColor,
     EdgeColor,
     MisraGries,
+    Late,
     File,
 }
 
@@ -29,6 +33,7 @@ impl Family {
             "node_color" => Family::NodeColor,
             "edge_color" => Family::EdgeColor,
             "misra_gries" => Family::MisraGries,
+            "late" => Family::Late,
             "file" => Family::File,
             _ => return None,
         })
@@ -192,6 +197,17 @@ impl Block {
         );
     }
 
+    /// The presets are the stored colours.
+    fn add_edge(&mut self, colors: usize) {
+        self.call(Family::Late, true, format!("misra_gries_add_edge {colors}"));
+    }
+
+    /// With these stored colours and a place for each edge.
+    fn add_edge_to(&mut self, stored: &[u16]) {
+        self.presets(stored.to_vec());
+        self.add_edge(self.m());
+    }
+
     /// The presets are the colours that are handed to it.
     fn write_file(&mut self, tags: u8, method: u8, output: usize) {
         let text = format!("write_graph_file {tags} {method} {output}");
@@ -231,6 +247,13 @@ impl Block {
         self.write_file(12, 3, 15 + 6 * m);
         self.write_file(12, 4, 15 + 6 * m);
         self.write_file(8, 0, 0);
+        // Nothing wrong beside the graph, or stored colours that 11 refuses; lengths that 5 refuses.
+        if m < 100 {
+            self.presets(vec![0; m.saturating_sub(1)]);
+            self.add_edge(m);
+        }
+        self.presets(vec![NONE; 3]);
+        self.add_edge(m);
     }
 
     /// Every call with lengths that are wrong by one or more, either way.
@@ -1323,6 +1346,270 @@ fn saved_files() -> Vec<FileCase> {
     cases
 }
 
+/// The Rust's colours of a list without loops and double edges.
+fn rust_colors(n: u16, edges: &[(u16, u16)]) -> Vec<u16> {
+    let mut graph = UnGraph::<(), ()>::default();
+    for _ in 0..n {
+        graph.add_node(());
+    }
+    for &(u, v) in edges {
+        graph.add_edge(NodeIndex::new(u.into()), NodeIndex::new(v.into()), ());
+    }
+    let colors = misra_gries_edge_color(&graph);
+    let color = |k| colors[&EdgeIndex::new(k)] as u16;
+    (0..edges.len()).map(color).collect()
+}
+
+fn greatest_degree(n: u16, edges: &[(u16, u16)]) -> u16 {
+    rules::greatest_degree(&rules::edges_of_nodes(n.into(), &flat(edges))) as u16
+}
+
+/// Colours for all edges but the last, from 0 to D, that no run need have made.
+fn other_colors(random: &mut Random, n: u16, edges: &[(u16, u16)]) -> Vec<u16> {
+    let greatest = greatest_degree(n, edges);
+    let before = &edges[..edges.len() - 1];
+    let found = (0..20).find_map(|_| proper_colors(random, before, greatest));
+    found.unwrap_or_else(|| renamed(random, &rust_colors(n, before), greatest))
+}
+
+/// Every list of so many of these numbers.
+fn all_of(numbers: &[u16], length: usize) -> Vec<Vec<u16>> {
+    let mut lists = vec![Vec::new()];
+    for _ in 0..length {
+        let longer = |list: &Vec<u16>| {
+            let list = list.clone();
+            numbers
+                .iter()
+                .map(move |&number| [&list[..], &[number]].concat())
+        };
+        lists = lists.iter().flat_map(longer).collect();
+    }
+    lists
+}
+
+/// A late match: the last edge takes its colour, the others have theirs.
+fn late(blocks: &mut Vec<Block>) {
+    late_lists(blocks);
+    late_checks(blocks);
+    late_shapes(blocks);
+    late_limits(blocks);
+}
+
+/// The documents' lists and small shapes, each edge late after the Rust's colours of those before; for some lists every
+/// choice of stored colours up to D, and beyond.
+fn late_lists(blocks: &mut Vec<Block>) {
+    let random = &mut Random(70_000);
+    let lists: [(u16, &[(u16, u16)]); 10] = [
+        (3, &[(1, 2)]),
+        (3, &[(0, 1), (0, 2)]),
+        (3, &[(0, 1), (1, 2), (0, 2)]),
+        (4, &[(0, 1), (1, 2), (2, 3)]),
+        (4, &[(0, 1), (0, 2), (1, 2), (0, 3)]),
+        (4, &[(0, 1), (1, 2), (0, 2), (2, 3)]),
+        (5, &[(0, 1), (1, 2), (2, 3), (3, 4)]),
+        (4, &[(0, 1), (2, 0), (1, 3), (0, 3)]),
+        (4, &[(1, 0), (0, 2), (2, 1), (1, 3), (3, 0)]),
+        (8, &[(7, 4), (5, 6), (7, 1), (5, 7), (3, 6), (6, 1)]),
+    ];
+    let mut graphs: Vec<(u16, Edges)> = lists.map(|(n, edges)| (n, edges.to_vec())).to_vec();
+    for shape in [
+        cycle(5),
+        cycle(6),
+        star(6),
+        complete(4),
+        complete(5),
+        complete(6),
+        bipartite(3, 3),
+    ] {
+        let n = shape.iter().map(|&(u, v)| u.max(v) + 1).max().unwrap();
+        graphs.push((n, mixed(random, &shape)));
+        graphs.push((n, shape));
+    }
+    for (n, edges) in graphs {
+        for k in 0..edges.len() {
+            let mut b = Block::of(n, &edges[..=k]);
+            b.add_edge_to(&rust_colors(n, &edges[..k]));
+            blocks.push(b);
+        }
+    }
+
+    // D is 3, 3, 2, 3 and 3; the last edge makes it in the third and the fourth, where it was 1 and 2.
+    let every: [(u16, &[(u16, u16)], &[u16]); 5] = [
+        (4, &[(0, 1), (1, 2), (0, 2), (2, 3)], &[0, 1, 2, 3, 4, NONE]),
+        (4, &[(1, 0), (0, 2), (2, 1), (1, 3), (3, 0)], &[0, 1, 2, 3]),
+        (4, &[(0, 1), (2, 3), (1, 2)], &[0, 1, 2, 3, 65534, NONE]),
+        (4, &[(0, 1), (2, 0), (0, 3)], &[0, 1, 2, 3, 4, NONE]),
+        (6, &[(0, 1), (0, 2), (3, 0), (4, 5)], &[0, 1, 2, 3, 4, NONE]),
+    ];
+    for (n, edges, numbers) in every {
+        let mut b = Block::of(n, edges);
+        for stored in all_of(numbers, edges.len() - 1) {
+            b.add_edge_to(&stored);
+        }
+        blocks.push(b);
+    }
+}
+
+/// Lengths, loops and double edges, and stored colours that 11 refuses, alone and together.
+fn late_checks(blocks: &mut Vec<Block>) {
+    // No edge, one, and more; stored colours that are right as far as they go.
+    let lists: [(u16, &[(u16, u16)], &[u16]); 7] = [
+        (0, &[], &[]),
+        (1, &[], &[]),
+        (512, &[], &[]),
+        (2, &[(0, 1)], &[]),
+        (512, &[(511, 0)], &[]),
+        (3, &[(0, 1), (1, 2)], &[2]),
+        (4, &[(0, 1), (1, 2), (0, 2), (2, 3)], &[2, 1, 0]),
+    ];
+    for (n, edges, colors) in lists {
+        let mut b = Block::of(n, edges);
+        for length in 0..edges.len() + 3 {
+            let mut stored = colors.to_vec();
+            stored.resize(length, 0);
+            b.presets(stored);
+            for lent in 0..edges.len() + 3 {
+                b.add_edge(lent);
+            }
+        }
+        blocks.push(b);
+    }
+
+    // A loop, and a double edge, in each place; beside them colours that are proper without it, or that 11 refuses.
+    let base = [(0, 1), (2, 1), (3, 0), (3, 4), (4, 2), (0, 4)];
+    let colors = [0, 1, 1, 0, 2, 2];
+    let mut add = |edges: Edges, colors: Vec<u16>| {
+        let mut b = Block::of(5, &edges);
+        let stored = &colors[..edges.len() - 1];
+        b.add_edge_to(stored);
+        b.presets([&stored[1..], &[NONE]].concat());
+        b.add_edge(edges.len());
+        b.add_edge(edges.len() - 1);
+        blocks.push(b);
+    };
+    add(base.to_vec(), colors.to_vec());
+    for place in 0..=base.len() {
+        let loops = [(0, 0), (4, 4)];
+        let doubles = base.iter().flat_map(|&(u, v)| [(u, v), (v, u)]);
+        for inserted in loops.into_iter().chain(doubles) {
+            let (mut edges, mut colors) = (base.to_vec(), colors.to_vec());
+            edges.insert(place, inserted);
+            colors.insert(place, 3);
+            add(edges.clone(), colors.clone());
+            if place == 2 {
+                // Both 6 and 7.
+                edges.push((2, 2));
+                colors.push(0);
+                add(edges, colors);
+            }
+        }
+    }
+
+    // At each place a colour above D, which is 3, and each colour that an edge beside it has.
+    let edges = [(0, 1), (2, 1), (3, 0), (3, 4), (4, 2), (0, 4), (1, 3)];
+    let stored = [0, 1, 1, 0, 2, 3];
+    let mut b = Block::of(5, &edges);
+    for place in 0..stored.len() {
+        for color in [0, 1, 2, 3, 4, 5, 255, 256, 65534, NONE] {
+            let mut changed = stored;
+            changed[place] = color;
+            b.add_edge_to(&changed);
+        }
+    }
+    blocks.push(b);
+}
+
+/// Long paths, with each end that matters to the fan, and wide fans.
+fn late_shapes(blocks: &mut Vec<Block>) {
+    // 0 is the first end of the late edge (0, 3), with edges to 1, of colour 0, and to 2, of colour 1, which join the fan
+    // one after the other. The path goes from 0 to 1 and on by colours 2, 0, 2. It ends at a node of its own, at 2 or at
+    // 3.
+    for length in [1, 2, 3, 4, 29, 30, 31, 32, 33, 100, 505] {
+        for end in [None, Some(2), Some(3)] {
+            let mut edges = Vec::new();
+            let mut stored = Vec::new();
+            let mut at = 1;
+            for k in 0..length {
+                let next = end.filter(|_| k + 1 == length).unwrap_or(4 + k);
+                edges.push(if k % 3 == 0 { (at, next) } else { (next, at) });
+                stored.push(if k % 2 == 0 { 2 } else { 0 });
+                at = next;
+            }
+            // 1 stands before 2 among the edges at 0.
+            edges.extend([(2, 0), (0, 1), (0, 3)]);
+            stored.extend([1, 0]);
+            let mut b = Block::of(4 + length, &edges);
+            b.add_edge_to(&stored);
+            blocks.push(b);
+        }
+    }
+
+    let random = &mut Random(71_000);
+    for n in [3, 32, 33, 34, 35, 512] {
+        let edges = star(n);
+        let mut b = Block::of(n, &edges);
+        b.add_edge_to(&rust_colors(n, &edges[..edges.len() - 1]));
+        for _ in 0..3 {
+            b.add_edge_to(&other_colors(random, n, &edges));
+        }
+        blocks.push(b);
+    }
+
+    for i in 0..250 {
+        let random = &mut Random(72_000 + i);
+        let n = 3 + random.node(if i % 10 == 9 { 24 } else { 9 });
+        let most = usize::from(n) * usize::from(n - 1) / 2;
+        let m = 1 + random.below(most);
+        let edges = simple(random, n, m);
+        let mut b = Block::of(n, &edges);
+        let stored = other_colors(random, n, &edges);
+        b.add_edge_to(&stored);
+        b.add_edge_to(&rust_colors(n, &edges[..m - 1]));
+        // One colour changed: it may still do.
+        if m > 1 {
+            let mut changed = stored;
+            changed[random.below(m - 1)] =
+                random.below(usize::from(greatest_degree(n, &edges)) + 2) as u16;
+            b.add_edge_to(&changed);
+        }
+        blocks.push(b);
+    }
+}
+
+/// The greatest complete graph, and 512 nodes with 4,096 edges.
+fn late_limits(blocks: &mut Vec<Block>) {
+    let random = &mut Random(73_000);
+    for (n, edges) in [
+        (20, complete(20)),
+        (91, mixed(random, &complete(91))),
+        (512, simple(random, 512, 4096)),
+    ] {
+        let m = edges.len();
+        let (last, greatest) = (m - 2, greatest_degree(n, &edges));
+        let rust = rust_colors(n, &edges[..m - 1]);
+        let mut b = Block::of(n, &edges);
+        b.add_edge_to(&rust);
+        b.add_edge(m - 1);
+        b.add_edge(m + 1);
+        b.add_edge_to(&renamed(random, &rust, greatest));
+        b.add_edge_to(&rust[..last]);
+        b.add_edge_to(&[&rust[..], &[0]].concat());
+        let mut changed = rust.clone();
+        changed[last] = NONE;
+        b.add_edge_to(&changed);
+        changed[last] = greatest + 1;
+        b.add_edge_to(&changed);
+        // The colour of the first edge before it at the same node.
+        let (u, v) = edges[last];
+        let beside = edges
+            .iter()
+            .position(|&(a, b)| a == u || a == v || b == u || b == v);
+        changed[last] = rust[beside.unwrap()];
+        b.add_edge_to(&changed);
+        blocks.push(b);
+    }
+}
+
 fn main() {
     let chosen: Vec<Family> = std::env::args()
         .skip(1)
@@ -1338,6 +1625,7 @@ fn main() {
     loops_and_doubles(&mut blocks);
     random_graphs(&mut blocks);
     writing(&mut blocks);
+    late(&mut blocks);
 
     let mut out = std::io::BufWriter::new(std::io::stdout().lock());
     for block in &blocks {

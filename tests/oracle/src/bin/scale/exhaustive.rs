@@ -44,7 +44,7 @@ pub fn all_simple(n: u16) -> impl Iterator<Item = Edges> {
 }
 
 /// The edges turned as the bits say.
-fn turned(edges: &[(u16, u16)], bits: u32) -> Edges {
+pub fn turned(edges: &[(u16, u16)], bits: u32) -> Edges {
     let edges = edges.iter().enumerate();
     edges
         .map(|(k, &(u, v))| if bits >> k & 1 == 1 { (v, u) } else { (u, v) })

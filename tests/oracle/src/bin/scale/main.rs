@@ -4,6 +4,7 @@
 mod choices;
 mod exhaustive;
 mod files;
+mod late;
 mod models;
 mod port;
 mod published;
@@ -16,12 +17,13 @@ use std::process::ExitCode;
 
 use tally::Tally;
 
-const PARTS: [(&str, fn(&mut Tally)); 5] = [
+const PARTS: [(&str, fn(&mut Tally)); 6] = [
     ("exhaustive", exhaustive::run),
     ("refusals", refusals::run),
     ("choices", choices::run),
     ("random", random::run),
     ("files", files::run),
+    ("late", late::run),
 ];
 
 fn main() -> ExitCode {
@@ -30,7 +32,7 @@ fn main() -> ExitCode {
         .iter()
         .find(|word| PARTS.iter().all(|(name, _)| name != word))
     {
-        eprintln!("no part {word:?}: exhaustive, refusals, choices, random or files");
+        eprintln!("no part {word:?}: exhaustive, refusals, choices, random, files or late");
         return ExitCode::from(2);
     }
     models::check();

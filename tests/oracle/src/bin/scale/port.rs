@@ -125,6 +125,9 @@ fn call(n: usize, call: Call, handed: &mut Handed) -> u32 {
             Call::MisraGries => {
                 ffi::wg_misra_gries_edge_color(n, ends, ends_len, lent, lent_len, report)
             }
+            Call::AddEdge => ffi::wg_misra_gries_add_edge(
+                n, ends, ends_len, presets, presets_len, lent, lent_len, report,
+            ),
         }
     }
 }

@@ -1,4 +1,5 @@
-//! The Rust's side: the published functions, unchanged, behind 01's checks.
+//! The Rust's side: the published functions, unchanged, behind 01's checks. Late matches, which it has not, are those of
+//! rules.rs.
 
 use std::convert::Infallible;
 use std::hash::Hash;
@@ -54,6 +55,11 @@ impl Graph {
 
     pub fn pair_count(&self) -> usize {
         rules::pair_count(&self.edges)
+    }
+
+    /// D.
+    pub fn greatest_degree(&self) -> usize {
+        rules::greatest_degree(&self.edges)
     }
 
     /// The graph whose nodes are coloured: this one, or its line graph.
@@ -175,6 +181,7 @@ fn refusal(graph: &Graph, question: Question) -> Option<u32> {
         Call::EdgeColor | Call::MisraGries => lent == m,
         Call::EdgeColorStrategy(_) => lent == m && presets == m,
         Call::LineGraph => true,
+        Call::AddEdge => unreachable!("rules.rs has its checks"),
     };
     if !lengths_fit {
         return Some(5);
@@ -250,12 +257,35 @@ fn colors(graph: &Graph, question: Question) -> Vec<u16> {
         Call::EdgeColor => by_place(&coloring::greedy_edge_color(g), EdgeIndex::new, m),
         Call::EdgeColorStrategy(number) => ruled_colors(graph, Kind::Edges, presets, number),
         Call::MisraGries => by_place(&coloring::misra_gries_edge_color(g), EdgeIndex::new, m),
-        Call::Incidence | Call::LineGraph => unreachable!(),
+        Call::Incidence | Call::LineGraph | Call::AddEdge => unreachable!(),
     }
+}
+
+/// The greatest colour plus one, or 0 if there is none.
+fn days(colors: &[u16]) -> usize {
+    let greatest = colors.iter().max();
+    greatest.map_or(0, |&color| usize::from(color) + 1)
+}
+
+/// A late match by rules.rs.
+fn added(graph: &Graph, question: Question) -> Outcome {
+    let mut outcome = unchanged(question);
+    let (n, ends) = (graph.n as u64, &graph.ends);
+    match rules::add_edge(n, ends, question.presets, question.lent) {
+        Err(number) => outcome.code = number.into(),
+        Ok(colors) => {
+            outcome.report = days(&colors);
+            outcome.lent = colors;
+        }
+    }
+    outcome
 }
 
 /// What the Rust answers, or how 01 refuses.
 pub fn answer(graph: &Graph, question: Question) -> Outcome {
+    if let Call::AddEdge = question.call {
+        return added(graph, question);
+    }
     let mut outcome = unchanged(question);
     if let Some(number) = refusal(graph, question) {
         if number == 8 {
@@ -269,8 +299,7 @@ pub fn answer(graph: &Graph, question: Question) -> Outcome {
         Call::LineGraph => line_list(graph, &mut outcome),
         _ => {
             outcome.lent = colors(graph, question);
-            let greatest = outcome.lent.iter().max();
-            outcome.report = greatest.map_or(0, |&color| usize::from(color) + 1);
+            outcome.report = days(&outcome.lent);
         }
     }
     outcome

@@ -11,6 +11,7 @@ pub enum Call {
     EdgeColor,
     EdgeColorStrategy(u8),
     MisraGries,
+    AddEdge,
 }
 
 pub const DEGREE: u8 = 0;
@@ -45,6 +46,7 @@ impl Call {
             }
             Call::EdgeColorStrategy(_) => "greedy_edge_color_with_coloring_strategy unknown",
             Call::MisraGries => "misra_gries_edge_color",
+            Call::AddEdge => "misra_gries_add_edge",
         }
     }
 }
@@ -53,6 +55,7 @@ impl Call {
 #[derive(Clone, Copy, Debug)]
 pub struct Question<'a> {
     pub call: Call,
+    /// The stored colours, for a late match.
     pub presets: &'a [u16],
     /// How many numbers are lent: of starts for incidence, of the line list, or of colours.
     pub lent: usize,

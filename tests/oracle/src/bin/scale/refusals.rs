@@ -8,7 +8,7 @@ use crate::question::{Call, Question};
 use crate::random::random_graph;
 use crate::tally::Tally;
 
-const CALLS: [Call; 15] = [
+const CALLS: [Call; 16] = [
     Call::Incidence,
     Call::TwoColor,
     Call::LineGraph,
@@ -24,6 +24,7 @@ const CALLS: [Call; 15] = [
     Call::EdgeColorStrategy(2),
     Call::EdgeColorStrategy(3),
     Call::MisraGries,
+    Call::AddEdge,
 ];
 
 /// The numbers by which a call can refuse, beside 1 to 4.
@@ -32,6 +33,7 @@ fn own_numbers(call: Call) -> &'static [u32] {
         Call::TwoColor => &[5, 8],
         Call::LineGraph => &[9],
         Call::MisraGries => &[5, 6, 7],
+        Call::AddEdge => &[5, 6, 7, 11],
         Call::NodeColorStrategy(3..) | Call::EdgeColorStrategy(3..) => &[5, 255],
         _ => &[5],
     }
@@ -54,6 +56,7 @@ fn fitting(call: Call, n: usize, m: usize, pairs: usize) -> Lengths {
         Call::NodeColorPreset | Call::NodeColorStrategy(_) => (n, n, 0),
         Call::EdgeColor | Call::MisraGries => (0, m, 0),
         Call::EdgeColorStrategy(_) => (m, m, 0),
+        Call::AddEdge => (m.saturating_sub(1), m, 0),
     };
     Lengths {
         presets,
@@ -243,9 +246,9 @@ fn unknown_strategies(tally: &mut Tally) {
     tally.end_part("strategies by number", "");
 }
 
-/// Ends the program unless every call was seen to refuse by each of its numbers.
-fn check_all_seen(tally: &Tally) {
-    for call in CALLS {
+/// Ends the program unless the calls were seen to refuse by each of their numbers.
+pub fn check_all_seen(tally: &Tally, calls: &[Call]) {
+    for &call in calls {
         for &number in [1, 2, 3, 4].iter().chain(own_numbers(call)) {
             let name = call.name();
             assert!(
@@ -261,5 +264,5 @@ pub fn run(tally: &mut Tally) {
     bad_graphs(tally);
     random_faults(tally);
     unknown_strategies(tally);
-    check_all_seen(tally);
+    check_all_seen(tally, &CALLS);
 }

@@ -7,7 +7,7 @@ use rustworkx_core::rules::NONE;
 
 use crate::port;
 use crate::published::{self, Graph};
-use crate::question::{Call, Question, STRATEGIES};
+use crate::question::{Call, Outcome, Question, STRATEGIES};
 
 /// How many differences of a part are printed.
 const SHOWN: u64 = 5;
@@ -71,8 +71,8 @@ impl Tally {
         *self.refusals.entry((name, number)).or_default() += 1;
     }
 
-    /// Puts the question to the Rust and to the port.
-    pub fn ask(&mut self, graph: &Graph, question: Question) {
+    /// Puts the question to the Rust and to the port; hands back what the port did.
+    pub fn ask(&mut self, graph: &Graph, question: Question) -> Outcome {
         let name = question.call.name();
         let expected = published::answer(graph, question);
         let found = port::ask(graph.n, &graph.ends, question);
@@ -81,8 +81,13 @@ impl Tally {
         }
         self.count(name, expected != found, graph, question.presets, || {
             let (lent, entries) = (question.lent, question.entries);
-            format!("  lent {lent}, entries {entries}\n  Rust {expected:?}\n  port {found:?}")
+            let asked = match question.call {
+                Call::AddEdge => "rules",
+                _ => "Rust",
+            };
+            format!("  lent {lent}, entries {entries}\n  {asked} {expected:?}\n  port {found:?}")
         });
+        found
     }
 
     /// A call with no presets that lends as many numbers as given.
