@@ -35,16 +35,17 @@ enum {
 /* What a call returns. */
 enum {
     WG_ACCEPTED = 0,
-    WG_TOO_MANY_NODES = 1,   /* n is above WG_MAX_NODES */
-    WG_ODD_ENDS = 2,         /* the list of ends has odd length */
-    WG_TOO_MANY_ENDS = 3,    /* it has more than two ends for each of WG_MAX_EDGES edges */
-    WG_END_OUTSIDE = 4,      /* an end is n or more */
-    WG_WRONG_LENGTH = 5,     /* a lent list has not the length that the call names */
-    WG_LOOP = 6,             /* an edge joins a node to itself */
-    WG_DOUBLE_EDGE = 7,      /* two edges join the same nodes */
-    WG_ODD_CLOSED_WALK = 8,  /* two colours do not suffice */
-    WG_SHORT_LIST = 9,       /* the lent list is too short for the pairs */
-    WG_BAD_FILE = 10,        /* the bytes are no graph file, or what is told does not make one */
+    WG_TOO_MANY_NODES = 1,     /* n is above WG_MAX_NODES */
+    WG_ODD_ENDS = 2,           /* the list of ends has odd length */
+    WG_TOO_MANY_ENDS = 3,      /* it has more than two ends for each of WG_MAX_EDGES edges */
+    WG_END_OUTSIDE = 4,        /* an end is n or more */
+    WG_WRONG_LENGTH = 5,       /* a lent list has not the length that the call names */
+    WG_LOOP = 6,               /* an edge joins a node to itself */
+    WG_DOUBLE_EDGE = 7,        /* two edges join the same nodes */
+    WG_ODD_CLOSED_WALK = 8,    /* two colours do not suffice */
+    WG_SHORT_LIST = 9,         /* the lent list is too short for the pairs */
+    WG_BAD_FILE = 10,          /* the bytes are no graph file, or what is told does not make one */
+    WG_BAD_STORED_COLORS = 11, /* a stored colour is too great, or two edges that share an end have the same one */
     WG_UNKNOWN_STRATEGY = 255
 };
 
@@ -144,6 +145,20 @@ uint32_t wg_line_graph(size_t n, const uint16_t *ends, size_t ends_len, uint16_t
  * On a refusal colors and *days are unchanged.
  */
 uint32_t wg_misra_gries_edge_color(size_t n, const uint16_t *ends, size_t ends_len, uint16_t *colors, size_t colors_len, size_t *days);
+
+/*
+ * The last edge gets a colour too, by the step that it has in wg_misra_gries_edge_color, from the colours that are stored for the
+ * others: stored[k] is that of edge k. colors gets a colour for each edge, from 0 to D, where D is the most edges that a node has with
+ * the last one counted, and edges that share an end differ. The step may change the colours of the others, as it does in the whole
+ * run. Colours that wg_misra_gries_edge_color gives the others become those that it gives all edges. *days is the greatest colour
+ * plus one, or 0 where there is no edge: then stored and colors are empty. It takes about as much stack as the whole run.
+ * Refuses by 1, 2, 3, 4; 5 unless stored_len is one less than the number of edges, or 0 where there is none, and colors_len is the
+ * number of edges; 6 a loop; 7 a double edge; 11 where a stored colour is above D, as WG_NONE always is, or two edges that share an end
+ * have the same one.
+ * On a refusal colors and *days are unchanged.
+ */
+uint32_t wg_misra_gries_add_edge(size_t n, const uint16_t *ends, size_t ends_len, const uint16_t *stored, size_t stored_len,
+                      uint16_t *colors, size_t colors_len, size_t *days);
 
 /*
  * Reads a graph file: *nodes and *edges are its counts, bit t - 1 of *tags is set where tag t stood, and *method is tag 4's byte, or

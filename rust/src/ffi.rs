@@ -83,6 +83,16 @@ extern "C" {
         colors_len: usize,
         days: *mut usize,
     ) -> u32;
+    pub fn wg_misra_gries_add_edge(
+        n: usize,
+        ends: *const u16,
+        ends_len: usize,
+        stored: *const u16,
+        stored_len: usize,
+        colors: *mut u16,
+        colors_len: usize,
+        days: *mut usize,
+    ) -> u32;
     pub fn wg_read_graph_file(
         bytes: *const u8,
         bytes_len: usize,

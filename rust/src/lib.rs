@@ -51,6 +51,8 @@ pub enum Refusal {
     ShortList = 9,
     /// 10: the bytes are no house file, or what is told doesn't make one.
     BadFile = 10,
+    /// 11: a stored colour is too great, or two edges that share an end have the same one.
+    BadStoredColors = 11,
 }
 
 impl Refusal {
@@ -75,6 +77,7 @@ impl Refusal {
             8 => Refusal::OddClosedWalk,
             9 => Refusal::ShortList,
             10 => Refusal::BadFile,
+            11 => Refusal::BadStoredColors,
             _ => unreachable!("the library refuses by no such number: {number}"),
         }
     }
@@ -93,6 +96,9 @@ impl fmt::Display for Refusal {
             Refusal::OddClosedWalk => "a closed walk of odd length exists",
             Refusal::ShortList => "the lent list is too short for the pairs",
             Refusal::BadFile => "the bytes are no house file, or what is told doesn't make one",
+            Refusal::BadStoredColors => {
+                "a stored colour is too great, or two edges that share an end have the same one"
+            }
         };
         write!(f, "refused {}: {why}", self.number())
     }
@@ -373,6 +379,51 @@ pub fn misra_gries_edge_color(
             n,
             ends.as_ptr(),
             ends.len(),
+            colors.as_mut_ptr(),
+            colors.len(),
+            &mut days,
+        )
+    };
+    answer(number, days)
+}
+
+/// Colours the last edge too, by the step that it has in [`misra_gries_edge_color`], from the stored colours of the others,
+/// which the step may change, as it does in the whole run. With D the most edges at a node, the last one counted, colours
+/// are 0 to D, and edges that share an end differ. Colours that [`misra_gries_edge_color`] gives the others become those that
+/// it gives all edges. Refuses by [`Refusal::BadStoredColors`] where a stored colour is above D, or two edges that share an
+/// end have the same one. Without edges nothing is stored.
+///
+/// ```
+/// use wulgranite::{misra_gries_add_edge, misra_gries_edge_color, Refusal};
+/// // Three matches have their days when a fourth comes.
+/// let matches = [0, 1, 1, 2, 0, 2, 2, 3];
+/// let (mut stored, mut days) = ([0; 3], [0; 4]);
+/// assert_eq!(misra_gries_edge_color(4, &matches[..6], &mut stored), Ok(3));
+/// assert_eq!(stored, [0, 1, 2]);
+/// assert_eq!(misra_gries_add_edge(4, &matches, &stored, &mut days), Ok(3));
+/// assert_eq!(days, [2, 1, 0, 2]);
+/// // The three may have other days,
+/// assert_eq!(misra_gries_add_edge(4, &matches, &[3, 1, 0], &mut days), Ok(4));
+/// assert_eq!(days, [3, 1, 2, 0]);
+/// // but no club two matches on one.
+/// let twice = misra_gries_add_edge(4, &matches, &[0, 1, 1], &mut days);
+/// assert_eq!(twice, Err(Refusal::BadStoredColors));
+/// ```
+pub fn misra_gries_add_edge(
+    n: usize,
+    ends: &[u16],
+    stored: &[u16],
+    colors: &mut [u16],
+) -> Result<usize, Refusal> {
+    let mut days = 0;
+    // SAFETY: as above.
+    let number = unsafe {
+        ffi::wg_misra_gries_add_edge(
+            n,
+            ends.as_ptr(),
+            ends.len(),
+            stored.as_ptr(),
+            stored.len(),
             colors.as_mut_ptr(),
             colors.len(),
             &mut days,

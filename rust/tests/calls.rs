@@ -133,17 +133,184 @@ fn misra_gries() {
 /// The greatest complete graph, on the stack of a test's thread.
 #[test]
 fn no_club_twice_on_a_day() {
-    let ends: Vec<u16> = (0..91)
-        .flat_map(|u| (u + 1..91).flat_map(move |v| [u, v]))
-        .collect();
+    let ends = complete(91);
     let mut colors = vec![0; ends.len() / 2];
     let days = misra_gries_edge_color(91, &ends, &mut colors).unwrap();
     assert!(days <= 91);
+    assert!(colors.iter().all(|&color| usize::from(color) < days));
+    assert_proper(&ends, &colors);
+}
+
+/// The complete graph, lower ends first.
+fn complete(n: u16) -> Vec<u16> {
+    (0..n)
+        .flat_map(|u| (u + 1..n).flat_map(move |v| [u, v]))
+        .collect()
+}
+
+/// Lists without loops and double edges.
+fn simple_lists() -> Vec<(usize, Vec<u16>)> {
+    let star = (1..20).flat_map(|v| [v, 0]).collect();
+    let bipartite = (0..64).flat_map(|k| [8 + k / 8, k % 8]).collect();
+    let mut scattered = Vec::new();
+    let mut joined = std::collections::HashSet::new();
+    let mut seed = 1u32;
+    while joined.len() < 150 {
+        seed = seed.wrapping_mul(1103515245).wrapping_add(12345);
+        let (u, v) = ((seed >> 16) % 30, (seed >> 24) % 30);
+        if u != v && joined.insert((u.min(v), u.max(v))) {
+            scattered.extend([u as u16, v as u16]);
+        }
+    }
+    vec![
+        (4, TAIL.to_vec()),
+        (20, star),
+        (16, bipartite),
+        (14, complete(14)),
+        (15, complete(15)),
+        (30, scattered),
+    ]
+}
+
+/// The most edges at a node.
+fn most_edges(ends: &[u16]) -> usize {
+    let at = |v| ends.iter().filter(|&&end| end == v).count();
+    ends.iter().map(|&v| at(v)).max().unwrap_or(0)
+}
+
+/// No club has two matches on a day, and no day is above D.
+fn assert_proper(ends: &[u16], colors: &[u16]) {
+    let most = most_edges(ends);
     let mut seen = std::collections::HashSet::new();
-    for (edge, &color) in ends.chunks(2).zip(&colors) {
-        assert!(usize::from(color) < days);
+    assert_eq!(ends.len(), 2 * colors.len());
+    for (edge, &color) in ends.chunks(2).zip(colors) {
+        assert!(usize::from(color) <= most);
         assert!(seen.insert((edge[0], color)) && seen.insert((edge[1], color)));
     }
+}
+
+#[test]
+fn late_match_refused() {
+    let long = vec![9; 8194];
+    let (none, one, two) = (&[][..], &[7][..], &[7, 7][..]);
+    for (n, ends, stored, places, refusal) in [
+        (513, &[0][..], none, 9, Refusal::TooManyNodes),
+        (3, &[9], none, 9, Refusal::OddEnds),
+        (3, &long, none, 9, Refusal::TooManyEnds),
+        (3, &[1, 1, 0, 2, 2, 0, 3, 0], none, 9, Refusal::EndOutside),
+        // One stored colour fewer than there are edges, and a place for each edge,
+        (3, &[1, 1, 0, 2, 2, 0], one, 3, Refusal::WrongLength),
+        (3, &[1, 1, 0, 2, 2, 0], &[7; 3], 3, Refusal::WrongLength),
+        (3, &[1, 1, 0, 2, 2, 0], two, 2, Refusal::WrongLength),
+        (3, &[1, 1, 0, 2, 2, 0], two, 4, Refusal::WrongLength),
+        // none for none.
+        (3, &[], one, 0, Refusal::WrongLength),
+        (3, &[], none, 1, Refusal::WrongLength),
+        (3, &[0, 2, 2, 0, 1, 1], two, 3, Refusal::Loop),
+        (3, &[1, 0, 0, 2, 2, 0], two, 3, Refusal::DoubleEdge),
+        (3, &[2, 0, 1, 2, 2, 0], two, 3, Refusal::DoubleEdge),
+        // A colour above D, where the last edge counts, or none.
+        (4, &[0, 1, 2, 3], &[2], 2, Refusal::BadStoredColors),
+        (3, &[0, 1, 0, 2], &[3], 2, Refusal::BadStoredColors),
+        (3, &[0, 1, 0, 2], &[NONE], 2, Refusal::BadStoredColors),
+        (4, &TAIL, &[0, 1, 4], 4, Refusal::BadStoredColors),
+        // The same colour at a first end, at a second end, and at one of each.
+        (4, &[0, 1, 0, 2, 2, 3], &[1, 1], 3, Refusal::BadStoredColors),
+        (4, &[1, 0, 2, 0, 2, 3], &[1, 1], 3, Refusal::BadStoredColors),
+        (4, &[1, 0, 0, 2, 2, 3], &[1, 1], 3, Refusal::BadStoredColors),
+        (4, &[0, 1, 2, 0, 2, 3], &[1, 1], 3, Refusal::BadStoredColors),
+        (4, &TAIL, &[0, 1, 0], 4, Refusal::BadStoredColors),
+    ] {
+        let mut colors = vec![9; places];
+        assert_eq!(
+            misra_gries_add_edge(n, ends, stored, &mut colors),
+            Err(refusal)
+        );
+        assert!(colors.iter().all(|&color| color == 9));
+    }
+}
+
+#[test]
+fn late_match_accepted() {
+    assert_eq!(misra_gries_add_edge(0, &[], &[], &mut []), Ok(0));
+    assert_eq!(misra_gries_add_edge(5, &[], &[], &mut []), Ok(0));
+    let mut colors = [9; 4];
+    assert_eq!(
+        misra_gries_add_edge(2, &[1, 0], &[], &mut colors[..1]),
+        Ok(1)
+    );
+    assert_eq!(colors, [0, 9, 9, 9]);
+    // D itself, and equal colours of edges that share no end.
+    let two = misra_gries_add_edge(4, &[0, 1, 2, 3], &[1], &mut colors[..2]);
+    assert_eq!((two, colors), (Ok(2), [1, 0, 9, 9]));
+    let three = misra_gries_add_edge(4, &[0, 1, 2, 3, 1, 2], &[2, 2], &mut colors[..3]);
+    assert_eq!((three, colors), (Ok(3), [2, 2, 0, 9]));
+    // The step changes a stored colour, whether it comes from the whole call or not.
+    for (stored, days, expected) in [([0, 1, 2], 3, [2, 1, 0, 2]), ([3, 1, 0], 4, [3, 1, 2, 0])] {
+        let answer = misra_gries_add_edge(4, &TAIL, &stored, &mut colors);
+        assert_eq!((answer, colors), (Ok(days), expected));
+    }
+}
+
+/// Stored colours that the whole call gives: the answer is the whole call's again.
+#[test]
+fn late_match_afresh() {
+    for (n, ends) in simple_lists() {
+        let mut stored = Vec::new();
+        for m in 1..=ends.len() / 2 {
+            let (mut late, mut whole) = (vec![9; m], vec![9; m]);
+            assert_eq!(
+                misra_gries_add_edge(n, &ends[..2 * m], &stored, &mut late),
+                misra_gries_edge_color(n, &ends[..2 * m], &mut whole)
+            );
+            assert_eq!(late, whole);
+            stored = late;
+        }
+    }
+}
+
+/// Other stored colours.
+#[test]
+fn late_match_elsewhere() {
+    for (n, ends) in simple_lists() {
+        for m in 1..=ends.len() / 2 {
+            let (list, others) = (&ends[..2 * m], &ends[..2 * m - 2]);
+            let most = most_edges(list) as u16;
+            let mut whole = vec![9; m - 1];
+            misra_gries_edge_color(n, others, &mut whole).unwrap();
+            let turned = whole.iter().map(|color| most - color).collect();
+            let mut greedy: Vec<u16> = vec![9; m - 1];
+            greedy_edge_color(n, others, &mut greedy).unwrap();
+            for stored in [turned, greedy] {
+                let mut colors = vec![9; m];
+                let answer = misra_gries_add_edge(n, list, &stored, &mut colors);
+                if stored.iter().any(|&color| color > most) {
+                    assert_eq!(answer, Err(Refusal::BadStoredColors));
+                    assert!(colors.iter().all(|&color| color == 9));
+                } else {
+                    let greatest = colors.iter().max().unwrap();
+                    assert_eq!(answer, Ok(usize::from(*greatest) + 1));
+                    assert_proper(list, &colors);
+                }
+            }
+        }
+    }
+}
+
+/// The greatest complete graph, one match after the other, on the stack of a test's thread.
+#[test]
+fn one_match_after_the_other() {
+    let ends = complete(91);
+    let mut stored = Vec::new();
+    let mut days = 0;
+    for m in 1..=ends.len() / 2 {
+        let mut colors = vec![0; m];
+        days = misra_gries_add_edge(91, &ends[..2 * m], &stored, &mut colors).unwrap();
+        stored = colors;
+    }
+    let mut whole = vec![0; ends.len() / 2];
+    assert_eq!(misra_gries_edge_color(91, &ends, &mut whole), Ok(days));
+    assert_eq!(stored, whole);
 }
 
 /// The list of `TAIL`.
@@ -360,4 +527,10 @@ fn refusals_say_why() {
         refusal.to_string(),
         "refused 7: two edges have the same ends"
     );
+    let refusal = misra_gries_add_edge(3, &[0, 1, 1, 2], &[3], &mut [0, 0]).unwrap_err();
+    assert_eq!(
+        refusal.to_string(),
+        "refused 11: a stored colour is too great, or two edges that share an end have the same one"
+    );
+    assert_eq!(refusal.number(), 11);
 }
