@@ -135,7 +135,8 @@ module _ (ends : List ℕ) (m n : ℕ) where
   stepsFrom h k zero = h
   stepsFrom h k (suc count) = stepsFrom (stepHeld ends m n h k) (suc k) count
 
--- The first k edges have their colours, in range and sharing none, the table is theirs, and the tally counts them.
+-- The first k edges have colours from 0 to D, those sharing an end different ones, the others none; the table is theirs, the marks are older than
+-- edge k's, and the tally counts them.
 pub record Running (n : ℕ) (ends starts entries work table marks : List ℕ) (t : Tally) (k : ℕ) : Type 0 where
   pub admitted : Admitted n ends
   pub rows : Table ends n starts entries
