@@ -3,7 +3,7 @@ use Prim.Native.Nat.{ℕ, zero, suc, _≤_, _<_, _+_, _-_, max}
 use mathlib.Core.Path.{_≡_, refl, sym, ap, ap₂, _∙_}
 use mathlib.Core.Logic.{_≢_, inl, inr}
 use mathlib.Core.List.{List, [], _∷_}
-use mathlib.Core.Bool.{Bool, cond}
+use mathlib.Core.Bool.{cond}
 use native.Mathlib.Omega.{arith}
 use native.Mathlib.Decide.{decLt}
 use lib.ListN.{length, take, getD, replicate, length-replicate}
@@ -13,13 +13,13 @@ use borrow.Author.Tests.{le-ltb, ltb-true, ltb-false, eq-eqb, ne-eqb}
 use native.Mathlib.Numerals.{add-one}
 use Rattle.lists.proofs.Tests.{by-test, dec-eq}
 use Rattle.graph.specs.Color.{daysOf, noColor}
-use Rattle.graph.proofs.ColorLaws.{days-empty, days-colored, days-uncolored, days-raised, days-kept, color-take}
+use Rattle.graph.proofs.ColorLaws.{days-empty, below-days, days-uncolored, days-raised, days-kept, color-take}
 use Rattle.graph.specs.Colored.{colorOf}
 use Rattle.vizing.specs.MisraGries.{greatestColor, step, heldAfter, held, Held, stepHeld}
 use Rattle.graph.specs.Edges.{edgeCount}
 use Rattle.graph.specs.Stretch.{Table}
 use Rattle.vizing.specs.Demand3.{Admitted}
-use Rattle.vizing.proofs.Theorem.{max-degree-bound}
+use Rattle.vizing.proofs.Theorem.{max-degree-bound, admitted-palette}
 use Rattle.vizing.proofs.DefinitionLaws.{step-list, step-edges, step-greatest}
 use Rattle.vizing.specs.Step.{Invariant}
 use Rattle.vizing.proofs.StepLaws.{step-keeps}
@@ -30,7 +30,6 @@ use Rattle.vizing.proofs.AddEdgeLaws.{stored-kept, stored-uncolored, stored-tak
 use Rattle.repaint.specs.Repaint.{TableOf}
 use Rattle.repaint.proofs.RepaintLaws.{getD-same}
 use Rattle.misra_gries.specs.declared.tally.Tally.{Tally}
-use Rattle.misra_gries.proofs.StepLaws.{palette}
 use Rattle.misra_gries.specs.Step.{InRange, Ready, topColor, tallyOf, Tallied, heldOf, stepsFrom, storedHeld, Running}
 
 -- ---- Days read off the tally: the greatest colour plus one, or 0 where no edge is coloured
@@ -67,33 +66,6 @@ greatest-front l zero b = greatest-blank l b ∙ sym greatest-none
 greatest-front [] (suc m) b = refl
 greatest-front (c ∷ cs) (suc m) b = greatest-cons c cs (take m cs) (greatest-front cs m (λ j h. b (suc j) (omega arith)))
 
--- Of coloured places only, one at least.
-days-greatest : (c : ℕ) (cs : List ℕ) → ((j : ℕ) → j < length (c ∷ cs) → colorOf (c ∷ cs) j ≢ noColor) → daysOf (c ∷ cs) ≡ suc (greatestColor (c ∷ cs))
-unfolding colorOf
-days-greatest c [] n =
-    days-colored c [] (n 0 (omega arith)) ∙ (by-test (ltb c (daysOf [])) (λ t. absurd (omega (arith, ltb-true c (daysOf []) t, days-empty))) (λ t. simp t (ap suc (last (n 0 (omega arith))))))
-  where
-    last : c ≢ noColor → c ≡ greatestColor (c ∷ [])
-    last h = sym (greatest-colored c [] h ∙ by-test (ltb (greatestColor []) c) (λ t. simp t) (λ t. simp t (omega (arith, ltb-false (greatestColor []) c t, greatest-none))))
-days-greatest c (x ∷ xs) n =
-    let rest = days-greatest x xs (λ j h. n (suc j) (omega arith)) in
-    let g = greatest-colored c (x ∷ xs) (n 0 (omega arith)) in
-    days-colored c (x ∷ xs) (n 0 (omega arith)) ∙ (by-test (ltb c (daysOf (x ∷ xs)))
-    (λ t. simp t (rest ∙ ap suc (sym (g ∙ ap (λ (b : Bool). cond b c (greatestColor (x ∷ xs))) (le-ltb (greatestColor (x ∷ xs)) c (omega (arith, ltb-true c (daysOf (x ∷ xs)) t)))))))
-    (λ t. simp t (ap suc (sym (g ∙ by-test (ltb (greatestColor (x ∷ xs)) c) (λ u. simp u) (λ u. simp u (omega (arith, ltb-false c (daysOf (x ∷ xs)) t, ltb-false (greatestColor (x ∷ xs)) c u))))))))
-
--- Days of the first m colours, the others being uncoloured, from m and the greatest colour alone.
-days-read : (l : List ℕ) (m : ℕ) → m ≤ length l → Blank l m → ((j : ℕ) → j < m → colorOf l j ≢ noColor) → daysOf (take m l) ≡ cond (eqb m 0) 0 (suc (greatestColor l))
-days-read l zero h b n = days-empty
-days-read [] (suc m) h b n = absurd (omega arith)
-days-read (c ∷ cs) (suc m) h b n =
-    rw (ne-eqb (suc m) 0 (λ e. omega arith)) (days-greatest c (take m cs) colored ∙ ap suc (sym (greatest-front (c ∷ cs) (suc m) b)))
-  where
-    colored : (j : ℕ) → j < length (c ∷ take m cs) → colorOf (c ∷ take m cs) j ≢ noColor
-    colored j k e =
-        let below : j < suc m = omega (arith, length-take-le m cs (omega arith)) in
-        n j below (sym (color-take (c ∷ cs) (suc m) j below) ∙ e)
-
 -- Of any list, the greatest colour is one below its days.
 pub greatest-days : (cs : List ℕ) → greatestColor cs ≡ daysOf cs - 1
 greatest-days [] = greatest-none ∙ (omega (arith, days-empty))
@@ -106,6 +78,23 @@ greatest-days (c ∷ cs) = elim (dec-eq c noColor) [
         (λ t. simp t (omega (arith, greatest-days cs, ltb-false (greatestColor cs) c t))))
   ]
 ]
+
+-- Of coloured places only, one at least.
+days-greatest : (c : ℕ) (cs : List ℕ) → ((j : ℕ) → j < length (c ∷ cs) → colorOf (c ∷ cs) j ≢ noColor) → daysOf (c ∷ cs) ≡ suc (greatestColor (c ∷ cs))
+unfolding colorOf
+days-greatest c cs n = omega (arith, greatest-days (c ∷ cs), below-days (c ∷ cs) c (inl refl) (n 0 (omega arith)))
+
+-- Days of the first m colours, the others being uncoloured, from m and the greatest colour alone.
+days-read : (l : List ℕ) (m : ℕ) → m ≤ length l → Blank l m → ((j : ℕ) → j < m → colorOf l j ≢ noColor) → daysOf (take m l) ≡ cond (eqb m 0) 0 (suc (greatestColor l))
+days-read l zero h b n = days-empty
+days-read [] (suc m) h b n = absurd (omega arith)
+days-read (c ∷ cs) (suc m) h b n =
+    rw (ne-eqb (suc m) 0 (λ e. omega arith)) (days-greatest c (take m cs) colored ∙ ap suc (sym (greatest-front (c ∷ cs) (suc m) b)))
+  where
+    colored : (j : ℕ) → j < length (c ∷ take m cs) → colorOf (c ∷ take m cs) j ≢ noColor
+    colored j k e =
+        let below : j < suc m = omega (arith, length-take-le m cs (omega arith)) in
+        n j below (sym (color-take (c ∷ cs) (suc m) j below) ∙ e)
 
 -- Of colours in 16 bits, one below the days fits 16 bits.
 pub days-fit : (cs : List ℕ) → ((i : ℕ) → getD cs i 0 < 65536) → daysOf cs ≤ 65536
@@ -170,7 +159,7 @@ module _ (n : ℕ) (ends starts entries work table marks : List ℕ) (t : Tally)
     raised =
         let a = running .admitted in
         let m = edgeCount ends in
-        let g = greatest-step ends m n (InRange n ends) (a .simple) (a .inside) (a .edges) (palette n ends a) work k h (running .kept) in
+        let g = greatest-step ends m n (InRange n ends) (a .simple) (a .inside) (a .edges) (admitted-palette n ends a) work k h (running .kept) in
         ap (λ (x : Tally). x .greatest) (s .noted) ∙ (greater (t .greatest) (s .color) ∙ (ap (λ (i : ℕ). max i (s .color)) (running .greatest) ∙ (ap (max (greatestColor work)) (s .stepped .top) ∙ (sym g ∙ sym (ap greatestColor (s .stepped .list))))))
 
     counted : t′ .edges ≡ t .edges + 1
@@ -185,7 +174,7 @@ module _ (n : ℕ) (ends starts entries work table marks : List ℕ) (t : Tally)
           admitted = a;
           rows = running .rows;
           bound = omega arith;
-          kept = rw (add-one k, e .list) (step-keeps ends m n (InRange n ends) (a .simple) (a .inside) (a .edges) (palette n ends a) work k h (running .kept));
+          kept = rw (add-one k, e .list) (step-keeps ends m n (InRange n ends) (a .simple) (a .inside) (a .edges) (admitted-palette n ends a) work k h (running .kept));
           tabled = e .tabled;
           size = omega (arith, e .size, running .size);
           unmarked = λ j. omega (arith, e .marked j);

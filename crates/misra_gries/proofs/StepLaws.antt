@@ -9,9 +9,8 @@ use lib.ListN.{length, getD, take, drop, length-append, length-take}
 use lib.Seq.{length-take-le, take-append-le}
 use borrow.Author.Tests.{eq-eqb, ne-eqb}
 use Rattle.graph.specs.Edges.{edgeCount, firstEnd, secondEnd, farEnd, edgesAt, degree}
-use Rattle.vizing.specs.Demand3.{Admitted, maxDegree}
-use Rattle.vizing.proofs.Theorem.{degree-max, max-degree-bound}
-use Rattle.vizing.proofs.StepLaws.{Palette, degree-palette, exchange-none, FoundLaws, found-laws, step-keeps}
+use Rattle.vizing.proofs.Theorem.{admitted-palette}
+use Rattle.vizing.proofs.StepLaws.{exchange-none, FoundLaws, found-laws, step-keeps}
 use Rattle.vizing.proofs.SimpleLaws.{degree-below}
 use Rattle.misra_gries.specs.Step.{InRange, Ready, Exchanging, Exchanged, Rotating, Rotated, Turning, Turned, topColor, FanReady}
 use Rattle.graph.specs.Stretch.{stretch}
@@ -30,13 +29,6 @@ use Rattle.recolor.specs.TablePath.{tablePath}
 use Rattle.recolor.proofs.TablePathLaws.{path-none, path-ended, table-path}
 use Rattle.fan.specs.TablePlaces.{tablePlaces}
 use Rattle.fan.proofs.TablePlacesLaws.{table-places, places-taken}
-
--- ---- the colours from 0 to D: enough for every step
-
-pub palette : (n : ℕ) (ends : List ℕ) → Admitted n ends → Palette ends (edgeCount ends) n (InRange n ends)
-palette n ends a =
-    let m = edgeCount ends in
-    degree-palette ends m n (maxDegree ends m n) (omega (arith, max-degree-bound ends m n, a .edges)) (degree-max ends m n)
 
 -- Laws of the step's parts, as the code has them: the path exchanged, the fan rotated, steps 2 to 5.
 
@@ -131,7 +123,7 @@ module _ (n : ℕ) (ends l T fan : List ℕ) (k u v : ℕ) (G : Turning n ends l
   found = stepParts ends m n l k
 
   found-of : FoundLaws ends m n (InRange n ends) l k found
-  found-of = let a = G .admitted in found-laws ends m n (InRange n ends) (a .simple) (a .inside) (a .edges) (palette n ends a) l k (G .edge) (G .kept)
+  found-of = let a = G .admitted in found-laws ends m n (InRange n ends) (a .simple) (a .inside) (a .edges) (admitted-palette n ends a) l k (G .edge) (G .kept)
 
   low : (c : ℕ) → InRange n ends c → c < 576
   low c h = omega (arith, h, max-degree-below n ends (G .admitted))
@@ -190,7 +182,7 @@ module _ (n : ℕ) (ends l T fan : List ℕ) (k u v : ℕ) (G : Turning n ends l
         turn-count = sym (length-take-le r fan (taken .1))
 
         next-kept : Invariant ends m (InRange n ends) (suc k) (step ends m n l k)
-        next-kept = let a = G .admitted in step-keeps ends m n (InRange n ends) (a .simple) (a .inside) (a .edges) (palette n ends a) l k (G .edge) (G .kept)
+        next-kept = let a = G .admitted in step-keeps ends m n (InRange n ends) (a .simple) (a .inside) (a .edges) (admitted-palette n ends a) l k (G .edge) (G .kept)
 
         rotating : Repaintable ends m l′ (k ∷ found .places) (rotatedColors l′ (found .places) d)
         rotating = rw (exchanged-is, d-is) (step-rotation ends m n (InRange n ends) low l k (G .edge) found-of T′ (rw exchanged-is at (x .tabled)) (G .kept) next-kept)
