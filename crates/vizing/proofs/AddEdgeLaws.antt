@@ -12,9 +12,9 @@ use lib.Seq.{getD-append-add, length-take-le, take-take, ext-getD, take-append-l
 use lib.Dec.{eqb, ltb}
 use borrow.Author.Tests.{eqb-true, eq-eqb, ltb-true, ltb-false, not-false}
 use Rattle.lists.proofs.Tests.{by-test, dec-eq, and-true, true-and, or-true, true-or}
-use Rattle.lists.specs.Search.{any}
+use Rattle.lists.specs.Search.{any, allBelow}
 use Rattle.lists.proofs.SearchLaws.{any-false, any-true}
-use Rattle.graph.specs.Edges.{edgeCount, firstEnd, secondEnd, At}
+use Rattle.graph.specs.Edges.{edgeCount, firstEnd, secondEnd, isLoop, secondAt, firstEdges, secondEdges, edgesAt, degree, At}
 use Rattle.graph.specs.Report.{accepted, Accepted}
 use Rattle.graph.specs.Check.{Check, _gives_, firstRefusal, answered, written, graphChecks, lengthCheck}
 use Rattle.graph.specs.Color.{Outcome, daysOf, colored, noColor}
@@ -23,11 +23,14 @@ use Rattle.graph.proofs.CheckLaws.{passed, passes, passed-first, passed-both, p
 use Rattle.graph.proofs.ColorLaws.{color-replicate, color-take}
 use Rattle.vizing.specs.Simple.{Incident}
 use Rattle.vizing.specs.Demand3.{maxDegree, Admitted, Accurate}
-use Rattle.vizing.specs.MisraGries.{step, heldAfter, held, simpleChecks, misraGriesChecks, misraGries}
+use Rattle.vizing.specs.MisraGries.{step, heldAfter, held, hasLoop, sameEnds, hasDoubleEdge, simpleChecks, misraGriesChecks, misraGries}
 use Rattle.vizing.specs.Step.{Invariant}
 -- No name of it is used: the rows are to be checked before the laws, so that a wrong definition is refused for what it gives.
 use Rattle.vizing.specs.AddEdgeAnswers
-use Rattle.vizing.specs.AddEdge.{hasEnd, shareEnd, hasColorAbove, hasEqualColors, storedChecks, addEdgeChecks, storedList, addEdge, ProperlyStored, Extendable, AddingCall, MeetsEdgeAdded, BuiltUp, whole, added, OneByOne}
+use Rattle.vizing.specs.AddEdge.{hasEnd, shareEnd, hasColorAbove, hasEqualColors, storedChecks, addEdgeChecks, storedList, addEdge, ProperlyStored, Extendable, EdgeAdded, AddingCall, MeetsEdgeAdded, BuiltUp, whole, added, OneByOne}
+use Rattle.vizing.specs.Demand3Examples.{listP13}
+use Rattle.vizing.specs.WrongCalls.{refusesAll, allZero, leavesSlice, filledP13, AddingFalls, unread, keepsStored, keptP13, WrongAddingCallsFall}
+use Rattle.vizing.proofs.ClauseLaws.{p13-max-degree, p13-first-three, p13-colors, refused-not-accepted, filled-p13, fills-in-accurate}
 use Rattle.vizing.proofs.DefinitionLaws.{step-list}
 use Rattle.vizing.proofs.StepLaws.{step-keeps}
 use Rattle.vizing.proofs.FirstEdges.{colored-before, edge-count-take}
@@ -386,4 +389,49 @@ module _ (call : AddingCall) (c : MeetsEdgeAdded call) (n : ℕ) (ends : List �
       built-afresh b h places e .1 ∙ misra-gries-first n ends a k h .same places e
 
 pub one-by-one : OneByOne
-one-by-one = record { afresh = built-afresh; run = built-run }
+one-by-one = record { definition = add-edge-clause; afresh = built-afresh; run = built-run }
+
+-- ---- wrong calls: each contradicts the clause on P13's list with the colours that its run holds before the last edge
+
+p13-extendable : Extendable 4 listP13 (0 ∷ 1 ∷ 2 ∷ []) (replicate 4 noColor)
+unfolding addEdgeChecks storedChecks hasColorAbove hasEqualColors shareEnd hasEnd firstRefusal graphChecks allBelow hasLoop hasDoubleEdge any isLoop sameEnds firstEnd secondEnd colorOf maxDegree degree edgesAt firstEdges secondEdges secondAt
+p13-extendable = passed-extendable 4 listP13 (0 ∷ 1 ∷ 2 ∷ []) (replicate 4 noColor) refl
+
+-- What the clause says of a call there.
+abbrev AddedP13 : AddingCall → Type 0
+AddedP13 call = let outcome = call 4 listP13 (0 ∷ 1 ∷ 2 ∷ []) (replicate 4 noColor) in EdgeAdded 4 listP13 (0 ∷ 1 ∷ 2 ∷ []) (replicate 4 noColor) (outcome .report) (outcome .colors)
+
+on-p13-added : (call : AddingCall) → (AddedP13 call → ⊥) → AddingFalls call
+on-p13-added call f = record { n = 4; ends = listP13; stored = 0 ∷ 1 ∷ 2 ∷ []; lent = replicate 4 noColor; extendable = p13-extendable; falls = f }
+
+-- Sharing fails: edges 0 and 1 share node 1.
+adding-zero-falls : AddingFalls (unread allZero)
+unfolding colorOf firstEnd secondEnd
+adding-zero-falls = on-p13-added (unread allZero) (λ a. a .accurate 1 refl .sharing 0 1 1 (omega arith, inr refl) (omega arith, inl refl) (λ e. omega (arith, e)) refl)
+
+-- The range fails: the slice was lent with a number above D.
+adding-leaves-falls : AddingFalls (unread leavesSlice)
+unfolding colorOf
+adding-leaves-falls = on-p13-added (unread leavesSlice) (λ a.
+    let r : noColor ≤ maxDegree listP13 4 4 = a .accurate 0 refl .range 0 (omega arith) in
+    omega (arith, r, p13-max-degree))
+
+kept-p13 : keptP13 ≡ 0 ∷ 1 ∷ 2 ∷ 3 ∷ []
+kept-p13 = ap (λ (D : ℕ). (0 ∷ 1 ∷ 2 ∷ []) ++ (D ∷ [])) p13-max-degree
+
+-- Afresh the list has 2,1,0,2.
+keeps-stored-falls : AddingFalls keepsStored
+keeps-stored-falls = on-p13-added keepsStored (λ a.
+    let colors = a .afresh (replicate 3 noColor) refl (sym p13-first-three) .1 in
+    let e : _≡_ {A = ℕ} 0 2 = ap (λ (l : List ℕ). getD l 0 0) (sym kept-p13 ∙ colors ∙ p13-colors) in
+    omega (arith, e))
+
+pub wrong-adding-calls-fall : WrongAddingCallsFall
+wrong-adding-calls-fall = record {
+  refuses = λ number. on-p13-added (unread (refusesAll number)) (λ a. refused-not-accepted number (a .accepts p13-extendable));
+  zeros = adding-zero-falls;
+  leaves = adding-leaves-falls;
+  keeps = keeps-stored-falls;
+  accurate = subst (λ (colors : List ℕ). Accurate 4 listP13 colors) (filled-p13 ∙ sym kept-p13) fills-in-accurate;
+  clause = λ call f c. f .falls (c (f .n) (f .ends) (f .stored) (f .lent));
+}

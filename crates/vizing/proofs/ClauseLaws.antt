@@ -39,7 +39,7 @@ triangle-max-degree : maxDegree triangle 3 3 ≡ 2
 unfolding maxDegree degree edgesAt firstEdges secondEdges secondAt isLoop firstEnd secondEnd
 triangle-max-degree = refl
 
-p13-max-degree : maxDegree listP13 4 4 ≡ 3
+pub p13-max-degree : maxDegree listP13 4 4 ≡ 3
 unfolding maxDegree degree edgesAt firstEdges secondEdges secondAt isLoop firstEnd secondEnd
 p13-max-degree = refl
 
@@ -70,7 +70,7 @@ triangle-used (suc (suc c)) h = let z : ⊥ = omega arith in absurd z
 -- ---- a later edge changes colours given before
 
 -- The first three edges of P13 alone get 0,1,2, and the whole run ends with 2,1,0 for them.
-p13-first-three : misraGries 4 (take 6 listP13) (replicate 3 noColor) .colors ≡ 0 ∷ 1 ∷ 2 ∷ []
+pub p13-first-three : misraGries 4 (take 6 listP13) (replicate 3 noColor) .colors ≡ 0 ∷ 1 ∷ 2 ∷ []
 p13-first-three = misra-gries-first 4 listP13 p13-admitted 3 (omega arith) .same (replicate 3 noColor) refl ∙ runs .2
 
 pub p13-colors : misraGries 4 listP13 (replicate 4 noColor) .colors ≡ 2 ∷ 1 ∷ 0 ∷ 2 ∷ []
@@ -151,7 +151,7 @@ on-p13 call f = record { n = 4; ends = listP13; lent = replicate 4 noColor; admi
 
 -- ---- "a colourer that refuses all graphs"
 
-refused-not-accepted : (number : ℕ) → Accepted {A = ℕ} (refused number) → ⊥
+pub refused-not-accepted : (number : ℕ) → Accepted {A = ℕ} (refused number) → ⊥
 refused-not-accepted number (days, e) = let z : _≡_ {A = ℕ} 0 1 = cc in omega arith
 
 -- Acceptance fails.
@@ -176,12 +176,12 @@ leaves-slice-falls = on-triangle leavesSlice (λ d.
 
 -- ---- "edge 0 done truly and the rest filled in"
 
-filled-p13 : filledP13 ≡ 0 ∷ 1 ∷ 2 ∷ 3 ∷ []
+pub filled-p13 : filledP13 ≡ 0 ∷ 1 ∷ 2 ∷ 3 ∷ []
 unfolding fillsIn rising
 filled-p13 = rw (runs .1)
 
 -- On P13's list it keeps to the accuracy rule, so only the first edges tell.
-fills-in-accurate : Accurate 4 listP13 filledP13
+pub fills-in-accurate : Accurate 4 listP13 filledP13
 unfolding colorOf
 fills-in-accurate = record {
   range = λ k h. rw (p13-max-degree, own k h) (omega arith);

@@ -100,8 +100,10 @@ pub data BuiltUp (call : AddingCall) (n : ℕ) (ends : List ℕ) : ℕ → Outco
       → BuiltUp call n ends (suc k) (call n (take (2 * suc k) ends) (outcome .colors) lent)
 
 -- However the first k edges of an admitted list were built up, from the empty list, one edge at a time, or from a whole call: report and colours
--- are those that misra_gries_edge_color gives them, in whatever slice of k places, and the colours are what demand 3's run holds after its kth edge. Proved as `one-by-one`.
+-- are those that misra_gries_edge_color gives them, in whatever slice of k places, and the colours are what demand 3's run holds after its kth edge. The definition is
+-- such a call. Proved as `one-by-one`.
 pub record OneByOne : Type 0 where
+  pub definition : MeetsEdgeAdded addEdge
   pub afresh : (call : AddingCall) → MeetsEdgeAdded call → (n : ℕ) (ends : List ℕ) → Admitted n ends → {k : ℕ} {outcome : Outcome} → BuiltUp call n ends k outcome
       → k ≤ edgeCount ends → (lent : List ℕ) → length lent ≡ k
       → (outcome .report ≡ misraGries n (take (2 * k) ends) lent .report) × (outcome .colors ≡ misraGries n (take (2 * k) ends) lent .colors)

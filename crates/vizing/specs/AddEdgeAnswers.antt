@@ -28,8 +28,10 @@ rows =
     ∷ record { outcome = addEdge 4 listP13 (0 ∷ 1 ∷ 4 ∷ []) (9 ∷ 8 ∷ 7 ∷ 6 ∷ []); report = refused 11; colors = 9 ∷ 8 ∷ 7 ∷ 6 ∷ [] }
     -- an edge stored without a colour: 11
     ∷ record { outcome = addEdge 4 listP13 (65535 ∷ 1 ∷ 2 ∷ []) (9 ∷ 8 ∷ 7 ∷ 6 ∷ []); report = refused 11; colors = 9 ∷ 8 ∷ 7 ∷ 6 ∷ [] }
-    -- (1,2) and (0,2) have one colour: 11
+    -- (1,2) and (0,2) have one colour, at the second end of the later: 11
     ∷ record { outcome = addEdge 4 listP13 (0 ∷ 1 ∷ 1 ∷ []) (9 ∷ 8 ∷ 7 ∷ 6 ∷ []); report = refused 11; colors = 9 ∷ 8 ∷ 7 ∷ 6 ∷ [] }
+    -- (0,1) and (1,2) have one colour, at the first end of the later: 11
+    ∷ record { outcome = addEdge 4 listP13 (0 ∷ 0 ∷ 2 ∷ []) (9 ∷ 8 ∷ 7 ∷ 6 ∷ []); report = refused 11; colors = 9 ∷ 8 ∷ 7 ∷ 6 ∷ [] }
     -- no edges and nothing stored: 0 days; sees one stored colour asked for
     ∷ record { outcome = addEdge 0 [] [] []; report = accepted 0; colors = [] }
     -- as many stored as edges, and two sharing an end have one colour: 5 comes before 11
