@@ -53,8 +53,8 @@ fn color_from(
 {
     let mut work = [Color::NONE; Graph::MAX_EDGES];
     let mut table = [Entry::NONE; EdgeTable::PLACES];
-    let greatest = max_degree(n as u16, starts, entries);
-    if !color_stored(ends, stored, greatest, &mut work, &mut table) {
+    let limit = max_degree(n as u16, starts, entries);
+    if !color_stored(ends, stored, limit, &mut work, &mut table) {
         return Coloring::Refused(Refusal::BadStoredColors);
     }
     let mut marks = [0u16; Graph::MAX_EDGES];
@@ -102,6 +102,7 @@ pub fn misra_gries_edge_color(n: usize, ends: &[u16], colors: &mut [u16]) -> Col
     let sized = colors.len() == ends.len() / 2;
     match check_simple(n, ends, sized, &mut starts, &mut entries) {
         Checked::Refused(refusal) => Coloring::Refused(refusal),
+        // Nothing is stored: an empty part of a slice at hand.
         Checked::Accepted(graph) => color_from(n, ends, &starts, &entries, &ends[..0], colors),
     }
 }

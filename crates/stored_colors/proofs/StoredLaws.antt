@@ -1,5 +1,5 @@
 -- Laws of D, and of the stored colours in the working list and the table.
-use Prim.Native.Nat.{ℕ, suc, _+_, _*_, _-_, _≤_, _<_, max}
+use Prim.Native.Nat.{ℕ, suc, _+_, _*_, _≤_, _<_, max}
 use mathlib.Core.Path.{_≡_, refl, sym, ap, _∙_}
 use mathlib.Core.List.{List, _∷_}
 use mathlib.Core.Bool.{Bool, true, false, not}
@@ -39,54 +39,54 @@ longest-all starts entries n v most e h b = let p : v ≡ n = omega arith in rw 
 
 -- ---- whether an edge may take a colour, by what the code asks
 
-module _ (ends T : List ℕ) (k c greatest : ℕ) where
-  pub above-greatest : greatest < c → false ≡ mayTake ends T k c greatest
+module _ (ends T : List ℕ) (k c limit : ℕ) where
+  pub above-limit : limit < c → false ≡ mayTake ends T k c limit
   unfolding mayTake
-  above-greatest h = simp (lt-ltb greatest c h)
+  above-limit h = simp (lt-ltb limit c h)
 
   module _ (u : ℕ) (pu : u ≡ getD ends (2 * k) 0) (b : Bool) (pb : b ≡ isEmpty T u c) where
     at-first : b ≡ isEmpty T (firstEnd ends k) c
     unfolding firstEnd
     at-first = pb ∙ ap (λ (x : ℕ). isEmpty T x c) pu
 
-    pub taken-at-first : not b ≡ true → false ≡ mayTake ends T k c greatest
+    pub taken-at-first : not b ≡ true → false ≡ mayTake ends T k c limit
     unfolding mayTake
-    taken-at-first h = rw (← at-first, not-true b h) (sym (and-false (not (ltb greatest c)) false refl))
+    taken-at-first h = rw (← at-first, not-true b h) (sym (and-false (not (ltb limit c)) false refl))
 
-    pub by-second : c ≤ greatest → not b ≡ false → (w : ℕ) → w ≡ getD ends (2 * k + 1) 0 → (d : Bool) → d ≡ isEmpty T w c → d ≡ mayTake ends T k c greatest
+    pub by-second : c ≤ limit → not b ≡ false → (w : ℕ) → w ≡ getD ends (2 * k + 1) 0 → (d : Bool) → d ≡ isEmpty T w c → d ≡ mayTake ends T k c limit
     unfolding mayTake secondEnd
-    by-second low h w pw d pd = rw (← at-first, le-ltb greatest c low, not-false b h, ← pw) pd
+    by-second low h w pw d pd = rw (← at-first, le-ltb limit c low, not-false b h, ← pw) pd
 
 -- ---- one edge after the other, as the code goes on with it
 
-module _ (ends stored : List ℕ) (greatest : ℕ) (s : State) where
-  pub too-many : 4096 < length stored → (false ≡ colorStored ends stored greatest s .all) × (s ≡ colorStored ends stored greatest s .state)
+module _ (ends stored : List ℕ) (limit : ℕ) (s : State) where
+  pub too-many : 4096 < length stored → (false ≡ colorStored ends stored limit s .all) × (s ≡ colorStored ends stored limit s .state)
   unfolding colorStored
   too-many h = rw (lt-ltb 4096 (length stored) h) (refl, refl)
 
-  pub stored-start : length stored ≤ 4096 → storedFrom ends greatest s 0 (drop 0 stored) ≡ colorStored ends stored greatest s
+  pub stored-start : length stored ≤ 4096 → storedFrom ends limit s 0 (drop 0 stored) ≡ colorStored ends stored limit s
   unfolding colorStored
   stored-start h = rw (le-ltb 4096 (length stored) h)
 
-module _ (ends : List ℕ) (greatest : ℕ) (s : State) (k c : ℕ) (cs : List ℕ) where
-  from-stop : mayTake ends (s .table) k c greatest ≡ false → storedFrom ends greatest s k (c ∷ cs) ≡ record { all = false; state = s }
+module _ (ends : List ℕ) (limit : ℕ) (s : State) (k c : ℕ) (cs : List ℕ) where
+  from-stop : mayTake ends (s .table) k c limit ≡ false → storedFrom ends limit s k (c ∷ cs) ≡ record { all = false; state = s }
   unfolding storedFrom
   from-stop p = rw (p, storedFrom)
 
-  from-next : mayTake ends (s .table) k c greatest ≡ true → storedFrom ends greatest s k (c ∷ cs) ≡ storedFrom ends greatest (colored ends s k c) (suc k) cs
+  from-next : mayTake ends (s .table) k c limit ≡ true → storedFrom ends limit s k (c ∷ cs) ≡ storedFrom ends limit (colored ends s k c) (suc k) cs
   unfolding storedFrom
   from-next p = rw (p, storedFrom)
 
-module _ (ends stored : List ℕ) (greatest : ℕ) (s : State) (k : ℕ) (r : Stored) (e : storedFrom ends greatest s k (drop k stored) ≡ r) where
-  module _ (h : k < length stored) (b : Bool) (pb : b ≡ mayTake ends (s .table) k (getD stored k 0) greatest) where
+module _ (ends stored : List ℕ) (limit : ℕ) (s : State) (k : ℕ) (r : Stored) (e : storedFrom ends limit s k (drop k stored) ≡ r) where
+  module _ (h : k < length stored) (b : Bool) (pb : b ≡ mayTake ends (s .table) k (getD stored k 0) limit) where
     pub stored-stop : not b ≡ true → (false ≡ r .all) × (s ≡ r .state)
     stored-stop q =
-        let f = sym (from-stop ends greatest s k (getD stored k 0) (drop (suc k) stored) (sym pb ∙ not-true b q)) ∙ (rw (drop-cons stored k 0 h) at e) in
+        let f = sym (from-stop ends limit s k (getD stored k 0) (drop (suc k) stored) (sym pb ∙ not-true b q)) ∙ (rw (drop-cons stored k 0 h) at e) in
         (ap (λ (x : Stored). x .all) f, ap (λ (x : Stored). x .state) f)
 
-    pub stored-next : not b ≡ false → (s′ : State) → s′ ≡ colored ends s k (getD stored k 0) → storedFrom ends greatest s′ (k + 1) (drop (k + 1) stored) ≡ r
+    pub stored-next : not b ≡ false → (s′ : State) → s′ ≡ colored ends s k (getD stored k 0) → storedFrom ends limit s′ (k + 1) (drop (k + 1) stored) ≡ r
     stored-next q s′ p =
-        rw (add-one k, p) (sym (from-next ends greatest s k (getD stored k 0) (drop (suc k) stored) (sym pb ∙ not-false b q)) ∙ (rw (drop-cons stored k 0 h) at e))
+        rw (add-one k, p) (sym (from-next ends limit s k (getD stored k 0) (drop (suc k) stored) (sym pb ∙ not-false b q)) ∙ (rw (drop-cons stored k 0 h) at e))
 
   pub stored-end : length stored ≤ k → (true ≡ r .all) × (s ≡ r .state)
   unfolding storedFrom

@@ -2,7 +2,7 @@
 -- working list and the table are then those of the stored colours.
 use Prim.Native.Nat.{ℕ, zero, suc, _+_, _-_, _≤_, _<_}
 use mathlib.Core.Path.{_≡_, refl, sym, ap, subst, _∙_}
-use mathlib.Core.Logic.{_≢_, inl, inr}
+use mathlib.Core.Logic.{inl, inr}
 use mathlib.Core.List.{List, _++_}
 use mathlib.Core.Bool.{Bool, true, false, true≢false, not, _&&_}
 use native.Mathlib.Omega.{arith}
@@ -44,22 +44,22 @@ longest-degree ends n starts entries t = longest-below ends n starts entries t n
 
 -- ---- what the tests say where the table is right
 
-module _ (ends : List ℕ) (m : ℕ) (l T : List ℕ) (L : TableOf ends m l T) (k c greatest : ℕ) (low : greatest < noColor) where
-  says : c ≤ greatest → (v : ℕ) → isEmpty T v c ≡ isFree l (edgesAt ends m v) c
+module _ (ends : List ℕ) (m : ℕ) (l T : List ℕ) (L : TableOf ends m l T) (k c limit : ℕ) (low : limit < noColor) where
+  says : c ≤ limit → (v : ℕ) → isEmpty T v c ≡ isFree l (edgesAt ends m v) c
   says h v = says-free ends m l T L v c (λ z. omega arith)
 
-  may-take-true : mayTake ends T k c greatest ≡ true → (c ≤ greatest) × ((v : ℕ) → At ends k v → isFree l (edgesAt ends m v) c ≡ true)
+  may-take-true : mayTake ends T k c limit ≡ true → (c ≤ limit) × ((v : ℕ) → At ends k v → isFree l (edgesAt ends m v) c ≡ true)
   unfolding mayTake
   may-take-true e =
-      let r = and-true (not (ltb greatest c)) (isEmpty T (firstEnd ends k) c && isEmpty T (secondEnd ends k) c) e in
+      let r = and-true (not (ltb limit c)) (isEmpty T (firstEnd ends k) c && isEmpty T (secondEnd ends k) c) e in
       let b = and-true (isEmpty T (firstEnd ends k) c) (isEmpty T (secondEnd ends k) c) (r .1) in
-      let h = ltb-false greatest c (not-true (ltb greatest c) (r .0)) in
+      let h = ltb-false limit c (not-true (ltb limit c) (r .0)) in
       (h, λ v at. elim at [ inl p ↦ rw (← p) (sym (says h (firstEnd ends k)) ∙ b .0) | inr p ↦ rw (← p) (sym (says h (secondEnd ends k)) ∙ b .1) ])
 
-  may-take-false : mayTake ends T k c greatest ≡ false → c ≤ greatest → (v : ℕ) × At ends k v × (isFree l (edgesAt ends m v) c ≡ false)
+  may-take-false : mayTake ends T k c limit ≡ false → c ≤ limit → (v : ℕ) × At ends k v × (isFree l (edgesAt ends m v) c ≡ false)
   unfolding mayTake
   may-take-false e h = by-test (isEmpty T (firstEnd ends k) c)
-      (λ t. (secondEnd ends k, inr refl, sym (says h (secondEnd ends k)) ∙ (rw (le-ltb greatest c h, t) at e)))
+      (λ t. (secondEnd ends k, inr refl, sym (says h (secondEnd ends k)) ∙ (rw (le-ltb limit c h, t) at e)))
       (λ t. (firstEnd ends k, inl refl, sym (says h (firstEnd ends k)) ∙ t))
 
 -- ---- the working list
@@ -160,23 +160,23 @@ module _ (n : ℕ) (ends stored : List ℕ) (a : Admitted n ends) (few : length 
       record { yes = λ y. absurd (true≢false (sym y ∙ sym (z .0))); no = λ y. filled-stop k s F (omega arith) t })
 
   -- `color_stored` from an empty working list and an empty table of N places, with D: what it answers and leaves.
-  module _ (greatest : ℕ) (d : greatest ≡ D) (N : ℕ) (size : N ≡ 294912) (b : Bool) (work table : List ℕ)
-      (answer : b ≡ colorStored ends stored greatest (state (replicate 4096 noColor) (replicate N noEdge)) .all)
-      (left : state work table ≡ colorStored ends stored greatest (state (replicate 4096 noColor) (replicate N noEdge)) .state) where
+  module _ (limit : ℕ) (d : limit ≡ D) (N : ℕ) (size : N ≡ 294912) (b : Bool) (work table : List ℕ)
+      (answer : b ≡ colorStored ends stored limit (state (replicate 4096 noColor) (replicate N noEdge)) .all)
+      (left : state work table ≡ colorStored ends stored limit (state (replicate 4096 noColor) (replicate N noEdge)) .state) where
     abbrev start : State
     start = state (replicate 4096 noColor) (replicate N noEdge)
 
     filled-start : Filled n ends stored 0 start
     filled-start = record { list = sym (stored-front stored 0 (omega arith)); tabled = admitted-table n ends a N size; range = λ j h. let z : ⊥ = omega arith in absurd z }
 
-    decided : Decided (colorStored ends stored greatest start)
-    decided = filled-all (length stored) 0 start filled-start (omega arith) (colorStored ends stored greatest start)
-        (ap (λ (i : ℕ). storedFrom ends i start 0 (drop 0 stored)) (sym d) ∙ stored-start ends stored greatest start (omega (arith, a .edges)))
+    decided : Decided (colorStored ends stored limit start)
+    decided = filled-all (length stored) 0 start filled-start (omega arith) (colorStored ends stored limit start)
+        (ap (λ (i : ℕ). storedFrom ends i start 0 (drop 0 stored)) (sym d) ∙ stored-start ends stored limit start (omega (arith, a .edges)))
 
     pub stored-yes : b ≡ true → ProperlyStored n ends stored × (work ≡ storedList stored) × TableOf ends (edgeCount ends) work table
     stored-yes y =
         let F = decided .yes (sym answer ∙ y) in (
-          filled-proper (length stored) (colorStored ends stored greatest start .state) F refl,
+          filled-proper (length stored) (colorStored ends stored limit start .state) F refl,
           ap (λ (s : State). s .work) left ∙ F .list ∙ ap storedList (take-length stored),
           subst (λ (s : State). TableOf ends m (s .work) (s .table)) (sym left) (F .tabled),
         )

@@ -28,11 +28,11 @@ pub fn max_degree(n: u16, starts: &[u16], entries: &[u16]) -> usize
     most
 }
 
-// Whether the colour is not above the greatest, and no edge has it at either end of this one.
-fn may_take(ends: &[u16], table: &[u16], edge: EdgeIndex, color: Color, greatest: usize) -> bool
-    ensures answer { λ r. ⌜ r ≡ mayTake (now (ends .entry)) (now (table .entry)) (edge .0) (color .0) greatest ⌝ }
+// Whether the colour is not above the limit, and no edge has it at either end of this one.
+fn may_take(ends: &[u16], table: &[u16], edge: EdgeIndex, color: Color, limit: usize) -> bool
+    ensures answer { λ r. ⌜ r ≡ mayTake (now (ends .entry)) (now (table .entry)) (edge .0) (color .0) limit ⌝ }
 {
-    if greatest < color.0 as usize {
+    if limit < color.0 as usize {
         return false;
     }
     let k = edge.0 as usize;
@@ -42,21 +42,22 @@ fn may_take(ends: &[u16], table: &[u16], edge: EdgeIndex, color: Color, greatest
     is_free(table, end_at(ends, 2 * k + 1), color)
 }
 
-// The edges take the stored colours in turn, in the working list and in the table, up to the first that may not take its own. The answer
-// is whether all have theirs. More colours than a graph has edges are not looked at.
+// The edges take the stored colours in turn, in the working list and in the table, up to the first that may not take its own: a colour
+// above the limit, or one that stands at an end already. The answer is whether all have theirs. More colours than a graph has edges are not
+// looked at.
 pub fn color_stored(
     ends: &[u16],
     stored: &[u16],
-    greatest: usize,
+    limit: usize,
     work: &mut [u16],
     table: &mut [u16],
 ) -> bool
     ensures answer { λ r. let ends = now (ends .entry) in let stored = now (stored .entry) in
         let work₀ = now (work .entry) in let table₀ = now (table .entry) in
-        ⌜ r ≡ colorStored ends stored greatest (state work₀ table₀) .all ⌝ }
+        ⌜ r ≡ colorStored ends stored limit (state work₀ table₀) .all ⌝ }
     ensures state { λ _. let ends = now (ends .entry) in let stored = now (stored .entry) in
         let work₀ = now (work .entry) in let table₀ = now (table .entry) in
-        ⌜ state (now (work .exit)) (now (table .exit)) ≡ colorStored ends stored greatest (state work₀ table₀) .state ⌝ }
+        ⌜ state (now (work .exit)) (now (table .exit)) ≡ colorStored ends stored limit (state work₀ table₀) .state ⌝ }
 {
     if stored.len() > Graph::MAX_EDGES {
         return false;
@@ -65,7 +66,7 @@ pub fn color_stored(
     while k < stored.len() {
         let edge = EdgeIndex(k as u16);
         let color = Color(stored[k]);
-        if !may_take(ends, table, edge, color, greatest) {
+        if !may_take(ends, table, edge, color, limit) {
             return false;
         }
         color_edge(ends, work, table, edge, color);

@@ -12,12 +12,12 @@ use Rattle.stored_colors.proofs.color_stored.Statement.{statement}
 use Rattle.stored_colors.proofs.color_stored.Tie as tie
 
 abbrev Inv-loop : tie.InvT-loop
-Inv-loop ends stored greatest work₀ table₀ k₀ work table k =
+Inv-loop ends stored limit work₀ table₀ k₀ work table k =
     (k ≤ length stored) × (length stored ≤ 4096) × (length work ≡ length work₀) × (length table ≡ length table₀)
-    × (storedFrom ends greatest (state work table) k (drop k stored) ≡ colorStored ends stored greatest (state work₀ table₀))
+    × (storedFrom ends limit (state work table) k (drop k stored) ≡ colorStored ends stored limit (state work₀ table₀))
 
 abbrev μ-loop : tie.MeasureT-loop
-μ-loop ends stored greatest work₀ table₀ k₀ work table k = length stored - k
+μ-loop ends stored limit work₀ table₀ k₀ work table k = length stored - k
 
 returns : tie.Need-returns Inv-loop μ-loop
 returns c = too-many _ _ _ _ (c .if1 .taken)

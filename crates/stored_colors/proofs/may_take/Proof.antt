@@ -1,12 +1,12 @@
 -- `may_take` meets its contract: the colour, then the two ends, as the definition asks them.
 use native.Mathlib.Omega.{arith}
 use borrow.Author.Needs.{needs}
-use Rattle.stored_colors.proofs.StoredLaws.{above-greatest, taken-at-first, by-second}
+use Rattle.stored_colors.proofs.StoredLaws.{above-limit, taken-at-first, by-second}
 use Rattle.stored_colors.proofs.may_take.Statement.{statement}
 use Rattle.stored_colors.proofs.may_take.Tie as tie
 
 returns : tie.Need-returns
-returns c = above-greatest _ _ _ _ _ (omega (arith, c .if1 .taken))
+returns c = above-limit _ _ _ _ _ (omega (arith, c .if1 .taken))
 
 returns-2 : tie.Need-returns-2
 returns-2 c = taken-at-first _ _ _ _ _ _ (c .before .before .end-at .ensures) _ (c .before .is-free .ensures) (c .if2 .taken)
