@@ -4,7 +4,10 @@ use Rattle.callers.proofs.RelianceLaws.{late-match-proper}
 use Rattle.callers.proofs.date_table.late_match_properly_colored.Statement.{statement}
 use Rattle.callers.proofs.date_table.late_match_properly_colored.Tie as tie
 
+returns : tie.Need-returns
+returns c = search (needs, late-match-proper)
+
 pub late-match-properly-colored-spec : {M : Type 1} → statement M
 late-match-properly-colored-spec = tie.close (tie.spec
     (λ c κs. search needs) (λ c. search needs)
-    (λ c. search (needs, late-match-proper)))
+    returns)
