@@ -15,7 +15,7 @@ use crate::tally::Tally;
 /// Where the stored colours are those that the Rust gives the edges before the last.
 const AFRESH: &str = "misra_gries_add_edge beside the Rust's run on the whole list";
 /// Of every late match that is accepted.
-const HELD: &str = "misra_gries_add_edge by the range and sharing parts";
+const HELD: &str = "misra_gries_add_edge by range, sharing, left over and days";
 
 /// The Rust's run on a list that has neither loops nor double edges.
 fn rust_run(graph: &Graph) -> Outcome {
