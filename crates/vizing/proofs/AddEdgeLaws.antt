@@ -29,7 +29,7 @@ use Rattle.vizing.specs.Step.{Invariant}
 use Rattle.vizing.specs.AddEdgeAnswers
 use Rattle.vizing.specs.AddEdge.{hasEnd, shareEnd, hasColorAbove, hasEqualColors, storedChecks, addEdgeChecks, storedList, addEdge, ProperlyStored, Extendable, EdgeAdded, AddingCall, MeetsEdgeAdded, BuiltUp, whole, added, OneByOne}
 use Rattle.vizing.specs.Demand3Examples.{listP13}
-use Rattle.vizing.specs.WrongCalls.{refusesAll, allZero, leavesSlice, filledP13, AddingFalls, unread, keepsStored, keptP13, WrongAddingCallsFall}
+use Rattle.vizing.specs.WrongCalls.{refusesAll, allZero, leavesSlice, AddingFalls, unread, keepsStored, keptP13, WrongAddingCallsFall}
 use Rattle.vizing.proofs.ClauseLaws.{p13-max-degree, p13-first-three, p13-colors, refused-not-accepted, filled-p13, fills-in-accurate}
 use Rattle.vizing.proofs.DefinitionLaws.{step-list}
 use Rattle.vizing.proofs.StepLaws.{step-keeps}
