@@ -6,8 +6,8 @@ use mathlib.Core.Bool.{Bool, true, false, not, _&&_}
 use mathlib.Core.Option.{some}
 use lib.ListN.{length}
 use lib.Dec.{eqb}
-use borrow.Author.Tests.{eqb-true, eq-eqb, ne-eqb}
-use Rattle.lists.proofs.Tests.{and-true, and-false, and-right}
+use borrow.Author.Tests.{eqb-true}
+use Rattle.lists.proofs.Tests.{and-true}
 use Rattle.graph.specs.Report.{Report, refused}
 use Rattle.graph.specs.Check.{_gives_, firstRefusal, graphChecks}
 use Rattle.graph.proofs.CheckLaws.{refused-first, answered-refused, written-refused}
@@ -22,13 +22,6 @@ use Rattle.misra_gries.proofs.CallLaws.{MeetsFrom}
 use Rattle.vizing.proofs.AddEdgeLaws.{colored-same, before-stored, add-edge-clause}
 
 -- ---- the lengths
-
--- The tests of both lengths, as one.
-pub sizes-other : (m stored lent : ℕ) → (lent ≡ m → ⊥) → false ≡ eqb stored (m - 1) && eqb lent m
-sizes-other m stored lent h = sym (and-false (eqb stored (m - 1)) (eqb lent m) (ne-eqb lent m h))
-
-pub sizes-by-stored : (m stored lent i : ℕ) → lent ≡ m → i ≡ m - 1 → eqb stored i ≡ eqb stored (m - 1) && eqb lent m
-sizes-by-stored m stored lent i h e = rw (e, eq-eqb lent m h) (sym (and-right (eqb stored (m - 1))))
 
 pub sizes-yes : (m stored lent : ℕ) (sized : Bool) → sized ≡ (eqb stored (m - 1) && eqb lent m) → sized ≡ true → (stored ≡ m - 1) × (lent ≡ m)
 sizes-yes m stored lent sized s t = let r = and-true (eqb stored (m - 1)) (eqb lent m) (sym s ∙ t) in (eqb-true stored (m - 1) (r .0), eqb-true lent m (r .1))

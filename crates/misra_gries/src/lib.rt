@@ -1,8 +1,6 @@
 // Misra-Gries edge colouring: each edge a colour from 0 to D, edges that share an end different ones. All edges, or one more.
 ghost use mathlib.Core.Path.{_≡_};
-ghost use mathlib.Core.Bool.{_&&_};
-ghost use Prim.Native.Nat.{_≤_, _-_};
-ghost use lib.Dec.{eqb};
+ghost use Prim.Native.Nat.{_≤_};
 ghost use lib.ListN.{length};
 ghost use Rattle.graph.specs.Report.{reportOfColoring};
 ghost use Rattle.graph.specs.Edges.{edgeCount};
@@ -25,6 +23,7 @@ use run::run;
 use simple_graph::check_simple;
 use stored_colors::color_stored;
 use stored_colors::max_degree;
+use stored_colors::sizes_fit;
 use tally::tally_of;
 
 mod grow;
@@ -73,19 +72,6 @@ fn color_from(
     copy_colors(&work[..edges], colors);
     let days = days_of_tally(tally);
     Coloring::Accepted { days }
-}
-
-// One stored colour fewer than edges, none for none, and a place for each edge.
-fn sizes_fit(m: usize, stored: usize, lent: usize) -> bool
-    ensures answer { λ r. ⌜ r ≡ (eqb stored (m - 1) && eqb lent m) ⌝ }
-{
-    if lent != m {
-        return false;
-    }
-    if m == 0 {
-        return stored == 0;
-    }
-    stored == m - 1
 }
 
 // Each edge gets a colour, by Misra and Gries 1992. A wrong length is told after the graph checks and before loops and double edges.

@@ -1,20 +1,29 @@
--- Laws of D, and of the stored colours in the working list and the table.
-use Prim.Native.Nat.{ℕ, suc, _+_, _*_, _≤_, _<_, max}
+-- Laws of the lengths, of D, and of the stored colours in the working list and the table.
+use Prim.Native.Nat.{ℕ, suc, _+_, _-_, _*_, _≤_, _<_, max}
 use mathlib.Core.Path.{_≡_, refl, sym, ap, _∙_}
 use mathlib.Core.List.{List, _∷_}
-use mathlib.Core.Bool.{Bool, true, false, not}
+use mathlib.Core.Bool.{Bool, true, false, not, _&&_}
 use native.Mathlib.Omega.{arith}
 use native.Mathlib.Numerals.{add-one}
 use lib.ListN.{length, getD, drop, drop-of-length-le}
 use lib.Seq.{drop-cons}
-use lib.Dec.{ltb}
-use borrow.Author.Tests.{lt-ltb, le-ltb, not-true, not-false}
-use Rattle.lists.proofs.Tests.{and-false}
+use lib.Dec.{eqb, ltb}
+use borrow.Author.Tests.{eq-eqb, ne-eqb, lt-ltb, le-ltb, not-true, not-false}
+use Rattle.lists.proofs.Tests.{and-false, and-right}
 use Rattle.graph.specs.Edges.{firstEnd, secondEnd}
 use Rattle.graph.specs.Stretch.{stretch}
 use Rattle.edge_table.specs.EdgeTable.{isEmpty}
 use Rattle.repaint.specs.Repaint.{State, state, colored}
 use Rattle.stored_colors.specs.Stored.{longestStretch, mayTake, Stored, storedFrom, colorStored}
+
+-- ---- the lengths
+
+-- The tests of both lengths, as one.
+pub sizes-other : (m stored lent : ℕ) → (lent ≡ m → ⊥) → false ≡ eqb stored (m - 1) && eqb lent m
+sizes-other m stored lent h = sym (and-false (eqb stored (m - 1)) (eqb lent m) (ne-eqb lent m h))
+
+pub sizes-by-stored : (m stored lent i : ℕ) → lent ≡ m → i ≡ m - 1 → eqb stored i ≡ eqb stored (m - 1) && eqb lent m
+sizes-by-stored m stored lent i h e = rw (e, eq-eqb lent m h) (sym (and-right (eqb stored (m - 1))))
 
 -- ---- D, node by node
 

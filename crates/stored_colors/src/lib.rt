@@ -1,4 +1,4 @@
-// Stored colours of the first edges of a list: D, and the working list and the edge table made from them. Every function is total: what
+// Stored colours of the first edges of a list: their number, D, and the working list and the edge table made from them. Every function is total: what
 // lies outside a slice reads as its default and takes no store.
 use edge_table::is_free;
 use edge_walk::edges_at;
@@ -9,8 +9,24 @@ use graph::Graph;
 use graph::NodeIndex;
 use repaint::color_edge;
 ghost use mathlib.Core.Path.{_≡_};
+ghost use mathlib.Core.Bool.{_&&_};
+ghost use Prim.Native.Nat.{_-_};
+ghost use lib.Dec.{eqb};
 ghost use Rattle.repaint.specs.Repaint.{state};
 ghost use Rattle.stored_colors.specs.Stored.{longestStretch, mayTake, colorStored};
+
+// One stored colour fewer than edges, none for none, and a place for each edge.
+pub fn sizes_fit(m: usize, stored: usize, lent: usize) -> bool
+    ensures answer { λ r. ⌜ r ≡ (eqb stored (m - 1) && eqb lent m) ⌝ }
+{
+    if lent != m {
+        return false;
+    }
+    if m == 0 {
+        return stored == 0;
+    }
+    stored == m - 1
+}
 
 // The most edges that one of the first n nodes has in the incidence table.
 pub fn max_degree(n: u16, starts: &[u16], entries: &[u16]) -> usize

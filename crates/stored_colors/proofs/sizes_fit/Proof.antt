@@ -1,9 +1,9 @@
 -- `sizes_fit` meets its contract: its tests are those of the promise, none for none apart.
 use native.Mathlib.Omega.{arith}
 use borrow.Author.Needs.{needs}
-use Rattle.misra_gries.proofs.AddLaws.{sizes-other, sizes-by-stored}
-use Rattle.misra_gries.proofs.sizes_fit.Statement.{statement}
-use Rattle.misra_gries.proofs.sizes_fit.Tie as tie
+use Rattle.stored_colors.proofs.StoredLaws.{sizes-other, sizes-by-stored}
+use Rattle.stored_colors.proofs.sizes_fit.Statement.{statement}
+use Rattle.stored_colors.proofs.sizes_fit.Tie as tie
 
 returns-3 : tie.Need-returns-3
 returns-3 c = sizes-by-stored _ _ _ _ (c .before .if1 .left) (omega arith)
