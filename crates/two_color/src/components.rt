@@ -95,12 +95,15 @@ fn join_edges(ends: &[u16], up: &mut [u16], flips: &mut [bool]) -> bool
     true
 }
 
-// The other of 0 and 1.
+// The other of 0 and 1, as two cases. A match must cover every number; no other is asked, so `_` is never met.
 fn other(side: u16) -> u16
     requires { ⌜ side ≤ 1 ⌝ }
     ensures answer { λ r. ⌜ r ≡ 1 - side ⌝ }
 {
-    1 - side
+    match side {
+        1 => 0,
+        0 | _ => 1,
+    }
 }
 
 // The side of a node that hangs under one of this side.
