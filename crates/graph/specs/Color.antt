@@ -3,8 +3,9 @@ use Prim.Native.Nat.{ℕ, zero, suc}
 use mathlib.Core.List.{List, [], _∷_}
 use mathlib.Core.Bool.{true, false, cond}
 use lib.ListN.{length}
-use lib.Dec.{eqb, ltb}
+use lib.Dec.{eqb}
 use Rattle.lists.specs.Member.{elem}
+use Rattle.lists.specs.Different.{different}
 use Rattle.graph.specs.Check.{Check, answered, written}
 use Rattle.graph.specs.Report.{Report}
 
@@ -12,10 +13,14 @@ use Rattle.graph.specs.Report.{Report}
 abbrev pub noColor : ℕ
 noColor = 65535
 
--- "`days`, the greatest colour plus one, or 0 if there is none"; "65,535 means none": it adds no day.
+-- The colours of a list: "65,535 means none".
+unfoldable pub colorsIn : List ℕ → List ℕ
+colorsIn [] = []
+colorsIn (c ∷ cs) = cond (eqb c noColor) (colorsIn cs) (c ∷ colorsIn cs)
+
+-- "`days` is how many different colours the answer has" (02, Point 4, in place of 01's greatest colour plus one).
 unfoldable pub daysOf : List ℕ → ℕ
-daysOf [] = 0
-daysOf (c ∷ cs) = cond (eqb c noColor) (daysOf cs) (cond (ltb c (daysOf cs)) (daysOf cs) (suc c))
+daysOf cs = different (colorsIn cs)
 
 -- Colouring: the report and the colour slice afterwards.
 pub record Outcome : Type 0 where

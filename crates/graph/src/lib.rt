@@ -7,7 +7,6 @@ mod colors;
 
 pub use check::check_graph;
 pub use colors::copy_colors;
-pub use colors::days_of;
 
 // A node's number; never taken for an edge's.
 pub struct NodeIndex(pub u16);

@@ -159,7 +159,7 @@ different-bound : (xs ys : List ℕ) → Nodup xs → ((k : ℕ) → Mem k xs �
 unfolding different
 different-bound xs ys u s = pigeonhole xs (distinct ys) u (λ k p. member-distinct ys k (s k p))
 
-different-le : (xs ys : List ℕ) → ((k : ℕ) → Mem k xs → Mem k ys) → different xs ≤ different ys
+pub different-le : (xs ys : List ℕ) → ((k : ℕ) → Mem k xs → Mem k ys) → different xs ≤ different ys
 unfolding different
 different-le xs ys s = different-bound (distinct xs) ys (distinct-nodup xs) (λ k p. s k (distinct-member xs k p))
 

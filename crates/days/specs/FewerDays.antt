@@ -1,0 +1,21 @@
+-- The thriftier of two colour lists: the page grid's choice (02, Point 4).
+use Prim.Native.Nat.{ℕ}
+use mathlib.Core.List.{List}
+use mathlib.Core.Bool.{Bool, false, not, _&&_, _||_, cond}
+use lib.ListN.{length, take}
+use lib.Dec.{ltb}
+use Rattle.lists.specs.Member.{elem}
+use Rattle.graph.specs.Color.{noColor, daysOf}
+use Rattle.days.specs.declared.LeadingPart.{LeadingPart}
+
+-- "whichever has fewer days among them, the first list on a tie. A list with 65,535 among those m loses to one without it; if both have it,
+-- the first is handed back."
+unfoldable pub secondChosen : List ℕ → List ℕ → Bool
+secondChosen first second = not (elem noColor second) && (elem noColor first || ltb (daysOf second) (daysOf first))
+
+-- "hand back the first m numbers": of the second list or of the first. "If m is above either length, the stretch handed back is empty, at the front of the first list."
+unfoldable pub fewerDays : List ℕ → List ℕ → ℕ → LeadingPart
+fewerDays first second m =
+    cond (ltb (length first) m || ltb (length second) m)
+    (record { second = false; length = 0 })
+    (record { second = secondChosen (take m first) (take m second); length = m })

@@ -1,0 +1,3 @@
+-- Numbers within bounds, and the thriftier of two lists.
+pub mod Within
+pub mod FewerDays

@@ -1,0 +1,193 @@
+// Days: how many different colours a list has, and which of two lists has fewer.
+ghost use mathlib.Core.Path.{_≡_};
+ghost use mathlib.Core.Logic.{_≢_};
+ghost use mathlib.Core.Bool.{false, cond};
+ghost use Prim.Native.Nat.{ℕ, _+_, _≤_, _<_};
+ghost use lib.ListN.{length, getD, take};
+ghost use Rattle.lists.specs.Member.{Mem, elem};
+ghost use Rattle.lists.specs.Different.{different};
+ghost use Rattle.graph.specs.Color.{daysOf, noColor};
+ghost use Rattle.days.specs.FewerDays.{secondChosen, fewerDays};
+ghost use Rattle.days.specs.Within.{within};
+use graph::Color;
+
+// One more than the greatest colour: so many days at most. A choice without a branch, so that the compiler can take many at once.
+fn most_days(colors: &[u16]) -> usize
+    ensures most { λ r. let colors = now (colors .entry) in ⌜ (r ≤ noColor) × ((c : ℕ) → Mem c colors → c ≢ noColor → c < r) ⌝ }
+{
+    let mut days = 0;
+    let mut i = colors.len();
+    while 0 < i {
+        i -= 1;
+        let c = colors[i];
+        let day = if c == Color::NONE { 0 } else { c + 1 };
+        if days < day {
+            days = day;
+        }
+    }
+    days as usize
+}
+
+// The smallest number of the list that is not below `from`, 65,535 if there is none. Without a branch, as above.
+fn next_color(colors: &[u16], from: u16) -> u16
+    ensures next { λ r. let colors = now (colors .entry) in ⌜ (from ≤ r) × ((c : ℕ) → Mem c colors → from ≤ c → r ≤ c) ⌝ }
+{
+    let mut next = Color::NONE;
+    let mut i = colors.len();
+    while 0 < i {
+        i -= 1;
+        let c = colors[i];
+        let other = if c < from { Color::NONE } else { c };
+        if other < next {
+            next = other;
+        }
+    }
+    next
+}
+
+// How many different numbers the list has from `from` on, as far as there are marks, each of them counted at the mark that it sets first. Where
+// all marks are set, the rest of the list has no other number.
+fn count_marked(colors: &[u16], from: u16, marks: &mut [bool]) -> usize
+    requires { ⌜ ((i : ℕ) → getD (now marks) i false ≡ false) ⌝ }
+    ensures answer { λ r. let colors = now (colors .entry) in let marks₀ = now (marks .entry) in ⌜ r ≡ different (within from (from + length marks₀) colors) ⌝ }
+{
+    let mut days = 0;
+    let mut i = colors.len();
+    while 0 < i {
+        if days == marks.len() {
+            return days;
+        }
+        i -= 1;
+        let c = colors[i];
+        if from <= c {
+            let place = (c - from) as usize;
+            if place < marks.len() {
+                if !marks[place] {
+                    marks[place] = true;
+                    days += 1;
+                }
+            }
+        }
+    }
+    days
+}
+
+// Colours below a bound, at most 64 of them.
+fn count_few(colors: &[u16], most: usize) -> usize
+    requires { ⌜ most ≤ 64 ⌝ }
+    ensures answer { λ r. let colors = now (colors .entry) in ⌜ r ≡ different (within 0 most colors) ⌝ }
+{
+    let mut marks = [false; 64];
+    count_marked(colors, 0, &mut marks[..most])
+}
+
+// Colours from `from` on, of the next `length`, at most 4,096.
+fn count_window(colors: &[u16], from: u16, length: usize) -> usize
+    requires { ⌜ length ≤ 4096 ⌝ }
+    ensures answer { λ r. let colors = now (colors .entry) in ⌜ r ≡ different (within from (from + length) colors) ⌝ }
+{
+    let mut marks = [false; 4096];
+    count_marked(colors, from, &mut marks[..length])
+}
+
+// As many as there are, 4,096 if there are more.
+fn at_most_4096(count: usize) -> usize
+    ensures answer { λ r. ⌜ (r ≤ 4096) × (r ≤ count) × (0 < count → 0 < r) ⌝ }
+{
+    if count < 4096 { count } else { 4096 }
+}
+
+// Any colours below `most`, 4,096 at a time, each time from the next one that stands in the list: so never more than 16 times, and never more often than
+// there are different colours.
+fn count_many(colors: &[u16], most: usize) -> usize
+    requires { ⌜ most ≤ noColor ⌝ }
+    ensures answer { λ r. let colors = now (colors .entry) in ⌜ r ≡ different (within 0 most colors) ⌝ }
+{
+    let mut days = 0;
+    let mut from = 0;
+    while from < most {
+        let start = next_color(colors, from as u16);
+        if most <= start as usize {
+            return days;
+        }
+        let length = at_most_4096(most - start as usize);
+        days += count_window(colors, start, length);
+        from = start as usize + length;
+    }
+    days
+}
+
+// How many different colours there are: 65,535 is none. Linear in the list, whatever its colours are.
+pub fn days_of(colors: &[u16]) -> usize
+    ensures answer { λ r. ⌜ r ≡ daysOf (now (colors .entry)) ⌝ }
+{
+    let most = most_days(colors);
+    if most <= 64 {
+        count_few(colors, most)
+    } else {
+        count_many(colors, most)
+    }
+}
+
+// Whether a place of the list has no colour.
+fn has_none(colors: &[u16]) -> bool
+    ensures answer { λ r. ⌜ r ≡ elem noColor (now (colors .entry)) ⌝ }
+{
+    let mut i = colors.len();
+    while 0 < i {
+        i -= 1;
+        if colors[i] == Color::NONE {
+            return true;
+        }
+    }
+    false
+}
+
+// Whether the second of two lists is chosen: where it has a colour everywhere, and fewer days or the first alone a place without a colour.
+fn second_chosen(first: &[u16], second: &[u16]) -> bool
+    ensures answer { λ r. ⌜ r ≡ secondChosen (now (first .entry)) (now (second .entry)) ⌝ }
+{
+    if has_none(second) {
+        return false;
+    }
+    if has_none(first) {
+        return true;
+    }
+    days_of(second) < days_of(first)
+}
+
+// A leading part of one of two lists: which of them, and how long it is.
+pub struct LeadingPart {
+    pub second: bool,
+    pub length: usize,
+}
+
+// The first `m` numbers of the list that has fewer days among them, as which list and how many; none, of the first, if one is shorter.
+pub fn fewer_days_part(first: &[u16], second: &[u16], m: usize) -> LeadingPart
+    ensures answer { λ r. ⌜ r ≡ fewerDays (now (first .entry)) (now (second .entry)) m ⌝ }
+{
+    if first.len() < m {
+        return LeadingPart { second: false, length: 0 };
+    }
+    if second.len() < m {
+        return LeadingPart { second: false, length: 0 };
+    }
+    let second = second_chosen(&first[..m], &second[..m]);
+    LeadingPart { second: second, length: m }
+}
+
+// The same as a part of the list itself, which starts where the list starts.
+pub fn fewer_days<'a>(first: &'a [u16], second: &'a [u16], m: usize) -> &'a [u16]
+    ensures contents { λ r. let first = now (first .entry) in let second = now (second .entry) in
+        let part = fewerDays first second m in
+        ⌜ now r ≡ take (part .length) (cond (part .second) second first) ⌝ }
+    ensures place { λ r. let part = fewerDays (now (first .entry)) (now (second .entry)) m in
+        ⌜ (r .ptr .0 ≡ cond (part .second) (second .entry .ptr .0) (first .entry .ptr .0))
+        × (r .ptr .1 ≡ cond (part .second) (second .entry .ptr .1) (first .entry .ptr .1)) ⌝ }
+{
+    let part = fewer_days_part(first, second, m);
+    if part.second {
+        return &second[..part.length];
+    }
+    &first[..part.length]
+}
