@@ -68,9 +68,9 @@ days-gapless cs b small below all =
     omega (arith, days-below cs b below, some)
 
 -- A list has at most as many days as places.
-pub days-length : (cs : List ℕ) → daysOf cs ≤ length cs
+pub days-at-most : (cs : List ℕ) → daysOf cs ≤ length cs
 unfolding daysOf different
-days-length cs = pigeonhole (distinct (colorsIn cs)) cs (distinct-nodup (colorsIn cs)) (λ c p. color-member cs c (distinct-member (colorsIn cs) c p) .0)
+days-at-most cs = pigeonhole (distinct (colorsIn cs)) cs (distinct-nodup (colorsIn cs)) (λ c p. color-member cs c (distinct-member (colorsIn cs) c p) .0)
 
 -- No colour, no day;
 pub days-none : (cs : List ℕ) → ((c : ℕ) → Mem c cs → c ≡ noColor) → daysOf cs ≡ 0

@@ -10,13 +10,11 @@ use lib.ListN.{length, take, replicate, length-append}
 use borrow.Author.Tests.{ltb-true}
 use mathlib.Core.Bool.{true}
 use native.Mathlib.Decide.{decLt}
-use Rattle.lists.specs.Member.{Mem}
-use Rattle.lists.proofs.MemberLaws.{place-of}
 use Rattle.graph.specs.Check.{firstRefusal, graphChecks, numbersPass}
 use Rattle.graph.proofs.CheckLaws.{refusal-passes, answered-accepted, answered-refused, passed, refused-first}
 use Rattle.graph.specs.Edges.{edgeCount, firstEnd, secondEnd}
 use Rattle.graph.specs.Color.{colored, daysOf, noColor, Outcome}
-use Rattle.graph.proofs.ColorLaws.{last-day, color-read}
+use Rattle.days.proofs.DaysLaws.{days-at-most}
 use Rattle.graph.specs.Colored.{colorOf}
 use Rattle.vizing.specs.MisraGries.{misraGries, misraGriesChecks, held}
 use Rattle.vizing.specs.Demand3.{Admitted}
@@ -112,13 +110,6 @@ length-take-bound zero l = omega arith
 length-take-bound (suc n) [] = omega arith
 length-take-bound (suc n) (x ∷ l) = omega (arith, length-take-bound n l)
 
-days-bound : (cs : List ℕ) (b : ℕ) → ((c : ℕ) → Mem c cs → c < b) → daysOf cs ≤ b
-days-bound cs b h = go (daysOf cs) refl
-  where
-    go : (d : ℕ) → daysOf cs ≡ d → d ≤ b
-    go zero e = omega arith
-    go (suc d) e = h d (last-day cs d e .0)
-
 -- ---- the text of a call
 
 module _ (n : ℕ) (ends lent : List ℕ) where
@@ -130,19 +121,15 @@ module _ (n : ℕ) (ends lent : List ℕ) where
   unfolding outcomeText misraGries colored reportText
   accepts e = rw (sym (answered-accepted (misraGriesChecks n ends lent) (daysOf (take (edgeCount ends) (held n ends (edgeCount ends)))) e))
 
-  -- An accepted call's days and colours are small numbers: no colour is above D, and D is at most m.
+  -- An accepted call's colours and days are small numbers: no colour is above D, which is at most m, and there are no more days than edges.
   colors-below : Admitted n ends → length lent ≡ edgeCount ends → (k : ℕ) → k < edgeCount ends → colorOf (misraGries n ends lent .colors) k ≤ 4096
   colors-below a l k h = omega (arith, demand3 n ends lent a l .accurate .range k h, max-degree-bound ends (edgeCount ends) n, a .edges)
 
-  days-below : Admitted n ends → length lent ≡ edgeCount ends → daysOf (take (edgeCount ends) (held n ends (edgeCount ends))) ≤ 4097
-  days-below a l =
+  days-below : Admitted n ends → daysOf (take (edgeCount ends) (held n ends (edgeCount ends))) ≤ 4096
+  days-below a =
       let m = edgeCount ends in
-      let cs = take m (held n ends m) in
-      days-bound cs 4097 (λ c p.
-      let q = place-of c cs noColor p in
-      let e = misra-gries-colors n ends lent a l in
-      let b = colors-below a l (q .0) (omega (arith, q .1, length-take-bound m (held n ends m))) in
-      omega (arith, rw e at b, q .2, color-read cs (q .0) noColor (q .1)))
+      let l = held n ends m in
+      omega (arith, days-at-most (take m l), length-take-bound m l, a .edges)
 
   -- The text of every call has this many bytes at most.
   outcome-bound : length (outcomeText ends (misraGries n ends lent)) ≤ 98330
@@ -150,7 +137,7 @@ module _ (n : ℕ) (ends lent : List ℕ) where
     | inl e ↦
         let p = passed-admitted n ends lent e in
         let a = p .0 in
-        rw (accepts e) (days-length ends (misraGries n ends lent .colors) _ (omega (arith, days-below a (p .1))) (a .edges)
+        rw (accepts e) (days-length ends (misraGries n ends lent .colors) _ (omega (arith, days-below a)) (a .edges)
         (record {
           number = omega (arith, a .edges);
           inside = λ k h. let b = a .inside k h in (omega (arith, b .0, a .nodes), omega (arith, b .1, a .nodes));

@@ -7,9 +7,12 @@ use mathlib.Core.Bool.{Bool, true, false, not, xor}
 use mathlib.Core.Option.{Option, none, some}
 use native.Mathlib.Omega.{arith}
 use lib.ListN.{length, getD}
-use lib.Dec.{eqb, leb}
-use borrow.Author.Tests.{eq-eqb, ne-eqb, leb-true, eqb-true, eqb-false}
+use lib.Dec.{eqb, leb, ltb}
+use borrow.Author.Tests.{eq-eqb, ne-eqb, leb-true, eqb-true, eqb-false, ltb-true, ltb-false}
 use Rattle.lists.proofs.Tests.{by-test, dec-eq}
+use Rattle.lists.specs.Member.{Mem}
+use Rattle.lists.proofs.MemberLaws.{mem-getD, place-of}
+use Rattle.days.proofs.DaysLaws.{days-gapless, days-once, days-none}
 use Rattle.graph.specs.Report.{Report, accepted, refused, Accepted, number, reportOfChecked}
 use Rattle.graph.specs.Check.{_gives_, firstRefusal, answered, written, graphChecks, lengthCheck, checkGraph, numbersPass, Passed}
 use Rattle.graph.proofs.CheckLaws.{refusal-passes, passed, passed-inside, sized-passed, passed-sized, refused-first, passed-first, first-refuses, first-passes, all-passed, answered-refused, answered-accepted, written-refused, written-accepted, graph-refused, graph-accepted}
@@ -20,10 +23,10 @@ use Rattle.graph.specs.declared.Graph.{Graph}
 use Rattle.graph.specs.declared.Checked.{Checked}
 use Rattle.graph.specs.declared.Checked.the-variants as C
 use Rattle.two_color.specs.Walk.{OddClosedWalk, Walk, isOdd}
-use Rattle.two_color.specs.Sides.{oddCycle, sideColor, sides, lowest}
+use Rattle.two_color.specs.Sides.{oddCycle, oddSide, sideColor, sides, lowest}
 use Rattle.two_color.proofs.SideLaws.{odd-cycle-walk, walk-odd-cycle, side-color-bound, color-second, length-sides, sides-at, lowest-node-one, lowest-le, lowest-same, lowest-walk, proper-walk}
 use Rattle.two_color.specs.Components.{NodesColored}
-use Rattle.two_color.specs.TwoColor.{inputChecks, twoColor, sidesOutcome, Bipartition, OneBipartition}
+use Rattle.two_color.specs.TwoColor.{inputChecks, twoColor, sidesOutcome, sideDays, Bipartition, OneBipartition}
 
 -- Laws of the call: one for each answer, and the clause of the bipartition.
 
@@ -40,11 +43,53 @@ module _ (n : ℕ) (ends lent : List ℕ) where
   pub colors-refused : (r : Bool) (s : List ℕ) → NodesColored ends (edgeCount ends) n r s → r ≡ false → lent ≡ sidesOutcome n ends lent .colors
   colors-refused r s c p = sides-refused (c .odd p) .1
 
-  pub sides-accepted : (d : ℕ) (s colors : List ℕ) → oddCycle ends (edgeCount ends) ≡ false → s ≡ sides ends (edgeCount ends) n → d ≡ daysOf s → colors ≡ s → (accepted d ≡ sidesOutcome n ends lent .report) × (colors ≡ sidesOutcome n ends lent .colors)
+  pub sides-accepted : (d : ℕ) (s colors : List ℕ) → oddCycle ends (edgeCount ends) ≡ false → s ≡ sides ends (edgeCount ends) n → d ≡ daysOf (sides ends (edgeCount ends) n) → colors ≡ s → (accepted d ≡ sidesOutcome n ends lent .report) × (colors ≡ sidesOutcome n ends lent .colors)
   unfolding sidesOutcome colored
   sides-accepted d s colors e p q r =
       let f = first-passes (oddCycle ends (edgeCount ends)) 8 [] e ∙ all-passed in
-      (ap accepted (q ∙ ap daysOf p) ∙ answered-accepted _ _ f, (r ∙ p) ∙ written-accepted _ _ _ f)
+      (ap accepted q ∙ answered-accepted _ _ f, (r ∙ p) ∙ written-accepted _ _ _ f)
+
+-- ---- the days, without counting
+
+module _ (n : ℕ) (ends : List ℕ) (p : Passed n ends) (fine : oddCycle ends (edgeCount ends) ≡ false) where
+  abbrev m : ℕ
+  m = edgeCount ends
+
+  side-member : (v : ℕ) → v < n → Mem (sideColor ends m v) (sides ends m n)
+  side-member v h = rw (sides-at ends m n v h) at (mem-getD (sides ends m n) v 0 (rw (length-sides ends m n) h))
+
+  member-side : (c : ℕ) → Mem c (sides ends m n) → (v : ℕ) × (v < n) × (sideColor ends m v ≡ c)
+  member-side c q =
+      let r = place-of c (sides ends m n) 0 q in
+      let h : r .0 < n = omega (arith, r .1, length-sides ends m n) in
+      (r .0, h, sym (sides-at ends m n (r .0) h) ∙ r .2)
+
+  -- The ends of the first edge have both colours.
+  both-sides : 0 < m → (c : ℕ) → c < 2 → Mem c (sides ends m n)
+  both-sides edge c h =
+      let i = passed-inside n ends p 0 edge in
+      let first = side-member (firstEnd ends 0) (i .0) in
+      let second = side-member (secondEnd ends 0) (i .1) in
+      let other = color-second ends m fine 0 edge in
+      elim (dec-eq (sideColor ends m (firstEnd ends 0)) c) [
+        | inl e ↦ rw e at first
+        | inr d ↦ let e : sideColor ends m (secondEnd ends 0) ≡ c = omega (arith, other, side-color-bound ends m (firstEnd ends 0)) in rw e at second
+      ]
+
+  -- Without edges every node has 1.
+  bare : ltb 0 m ≡ false → (v : ℕ) → sideColor ends m v ≡ 1
+  unfolding sideColor oddSide
+  bare t v = let z : m ≡ 0 = omega (arith, ltb-false 0 m t) in rw z
+
+  pub sides-days : sideDays n m ≡ daysOf (sides ends m n)
+  unfolding sideDays
+  sides-days = by-test (ltb 0 m)
+      (λ t. simp t (sym (days-gapless (sides ends m n) 2 (omega arith) (λ c q o. let r = member-side c q in omega (arith, r .2, side-color-bound ends m (r .0))) (both-sides (ltb-true 0 m t)))))
+      (λ t. by-test (ltb 0 n)
+        (λ u. simp (t, u) (sym (days-once (sides ends m n) (1 ∷ []) (λ q. q, tt)
+          (λ c q. elim q [ inl e ↦ (rw (e, sym (bare t 0)) (side-member 0 (ltb-true 0 n u)), λ z. omega arith) | inr x ↦ absurd x ])
+          (λ c q o. let r = member-side c q in inl (sym (r .2) ∙ bare t (r .0))))))
+        (λ u. simp (t, u) (sym (days-none (sides ends m n) (λ c q. absurd (let r = member-side c q in omega (arith, r .1, ltb-false 0 n u)))))))
 
 -- What copying out asks: as many places, and colours that fit a byte.
 pub sides-fit : (n : ℕ) (ends s : List ℕ) (m : ℕ) → s ≡ sides ends m n → (length s ≡ n) × ((i : ℕ) → i < length s → getD s i 0 ≤ 1)

@@ -3,7 +3,9 @@ use Prim.Native.Nat.{ℕ, _≤_, _<_}
 use mathlib.Core.Path.{_≡_}
 use mathlib.Core.Logic.{_⊎_, _≢_}
 use mathlib.Core.List.{List, [], _∷_, _++_}
+use mathlib.Core.Bool.{cond}
 use lib.ListN.{length, getD}
+use lib.Dec.{ltb}
 use Rattle.graph.specs.Report.{Report, accepted, refused, Accepted}
 use Rattle.graph.specs.Check.{Check, _gives_, graphChecks, lengthCheck, Passed}
 use Rattle.graph.specs.Edges.{edgeCount, firstEnd, secondEnd}
@@ -34,6 +36,10 @@ pub record Bipartition (n : ℕ) (ends lent : List ℕ) (report : Report ℕ) (c
   pub differ : (days : ℕ) → report ≡ accepted days → (k : ℕ) → k < edgeCount ends → getD colors (firstEnd ends k) 0 ≢ getD colors (secondEnd ends k) 0
   -- and the lowest node of each component, from which no walk leads to a lower one, has 1.
   pub lowest : (days : ℕ) → report ≡ accepted days → (v : ℕ) → v < n → ((u l : ℕ) → Walk ends (edgeCount ends) v u l → v ≤ u) → getD colors v 0 ≡ 1
+
+-- The days of n nodes and m edges where no odd closed walk exists. Proved as `sides-days`.
+unfoldable pub sideDays : ℕ → ℕ → ℕ
+sideDays n m = cond (ltb 0 m) 2 (cond (ltb 0 n) 1 0)
 
 -- The outcome where the other checks pass.
 unfoldable pub sidesOutcome : ℕ → List ℕ → List ℕ → Outcome

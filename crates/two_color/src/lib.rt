@@ -4,13 +4,12 @@ ghost use Prim.Native.Nat.{ℕ, _≤_, _<_};
 ghost use lib.ListN.{length, getD};
 ghost use Rattle.graph.specs.Report.{reportOfColoring};
 ghost use Rattle.graph.specs.Check.{Passed};
-ghost use Rattle.two_color.specs.TwoColor.{twoColor, sidesOutcome, Bipartition};
+ghost use Rattle.two_color.specs.TwoColor.{twoColor, sidesOutcome, sideDays, Bipartition};
 use graph::Checked;
 use graph::Coloring;
 use graph::Graph;
 use graph::Refusal;
 use graph::check_graph;
-use graph::days_of;
 
 mod components;
 
@@ -24,6 +23,19 @@ fn copy_out(sides: &[u16], colors: &mut [u8])
         colors[i] = sides[i] as u8;
         i += 1;
     }
+}
+
+// The days without counting: the ends of an edge have both colours; without edges every node has 1.
+fn days_of_sides(n: usize, m: usize) -> usize
+    ensures answer { λ r. ⌜ r ≡ sideDays n m ⌝ }
+{
+    if 0 < m {
+        return 2;
+    }
+    if 0 < n {
+        return 1;
+    }
+    0
 }
 
 // A graph that passed the checks, and a place for each node.
@@ -40,7 +52,7 @@ fn color_checked(n: usize, ends: &[u16], colors: &mut [u8]) -> Coloring
     let mut sides = [0u16; Graph::MAX_NODES];
     if components::color_nodes(n, ends, &mut up, &mut flips, &mut sides) {
         copy_out(&sides[..n], colors);
-        let days = days_of(&sides[..n]);
+        let days = days_of_sides(n, ends.len() / 2);
         Coloring::Accepted { days }
     } else {
         Coloring::Refused(Refusal::OddClosedWalk)

@@ -2,9 +2,10 @@
 // one another, each a part of a call here: the checks (`check_nodes`, `check_edges`, `check_items`, `check_simple`), the strategies one by one,
 // among which `ColoringStrategy` chooses, the smallest free colour of a node and of an edge (smallest_color), nodes or edges as
 // items (items) and their marks (color_marks), Saturation's next item (`choose`), a part of an edge's neighbours (`part_at`), the steps of Misra-Gries
-// (edge_table, repaint, fan, recolor, stored_colors), the layout of a file and its numbers (`layout_of`, `copy_numbers`), `incidence_front`, `days_of`, `copy_colors`,
+// (edge_table, repaint, fan, recolor, stored_colors), the layout of a file and its numbers (`layout_of`, `copy_numbers`), `incidence_front`, `days_of`, `fewer_days_part`, `copy_colors`,
 // `end_at` and `step_at`.
 // `matchday_text` is left out too: its text is the program's, not a colouring.
+pub use days::fewer_days;
 pub use edge_walk::EdgeWalk;
 pub use edge_walk::WalkStep;
 pub use edge_walk::edge_at;
