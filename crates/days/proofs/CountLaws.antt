@@ -7,12 +7,13 @@ use mathlib.Core.Bool.{Bool, true, false}
 use native.Mathlib.Omega.{arith}
 use native.Mathlib.Decide.{decLt}
 use lib.ListN.{length, length-map, length-set, length-replicate, drop, take, getD, set, replicate, getD-replicate, List·getD-eq-default}
-use lib.Seq.{drop-cons, drop-length, length-take-le, getD-take, getD-set-same, getD-set-other}
+use lib.Seq.{drop-length, length-take-le, getD-take, getD-set-same, getD-set-other}
 use borrow.Author.Tests.{lt-ltb, le-ltb, ne-eqb}
 use Rattle.lists.proofs.Tests.{dec-eq}
 use Rattle.lists.specs.Member.{Mem, Nodup, elem}
 use Rattle.lists.specs.Different.{distinct, different}
 use Rattle.lists.proofs.MemberLaws.{elem-true, elem-false, mem-elem, not-mem-elem, pigeonhole, below, mem-below, length-below, mem-map, dec-mem, distinct-member, distinct-nodup, different-same, different-new, different-le, different-none}
+use Rattle.lists.proofs.PartsLaws.{drop-back}
 use Rattle.graph.specs.Color.{noColor, daysOf, colorsIn}
 use Rattle.days.proofs.DaysLaws.{color-member, member-color}
 use Rattle.days.specs.Within.{within}
@@ -108,9 +109,6 @@ within-days b cs (small, below) = different-same (within 0 b cs) (colorsIn cs)
 
 -- ---- counting from the back, as the code does
 
-pub drop-at : (cs : List ℕ) (i : ℕ) → 0 < i → i ≤ length cs → drop (i - 1) cs ≡ getD cs (i - 1) 0 ∷ drop i cs
-drop-at cs i h k = let e : suc (i - 1) ≡ i = omega arith in drop-cons cs (i - 1) 0 (omega arith) ∙ ap (λ (j : ℕ). getD cs (i - 1) 0 ∷ drop j cs) e
-
 drop-member : (i : ℕ) (cs : List ℕ) (c : ℕ) → Mem c (drop i cs) → Mem c cs
 drop-member zero cs c p = p
 drop-member (suc i) [] c p = p
@@ -146,7 +144,7 @@ module _ {colors : List ℕ} {from size i days : ℕ} {marks : List Bool} (C : C
 
   module _ (some : 0 < i) where
     at : drop (i - 1) colors ≡ getD colors (i - 1) 0 ∷ drop i colors
-    at = drop-at colors i some (C .inside)
+    at = drop-back colors i some (C .inside)
 
     -- A number that sets no mark, or one that is set.
     passed : (c : ℕ) → c ≡ getD colors (i - 1) 0 → ((c < from) ⊎ (from + size ≤ c)) ⊎ Mem c (drop i colors) → Counted colors from size (i - 1) days marks
@@ -206,7 +204,7 @@ module _ {colors : List ℕ} {from size i days : ℕ} {marks : List Bool} (C : C
 -- ---- what is said of every number from place i on
 
 pub each-more : (P : ℕ → Type 0) (cs : List ℕ) (i : ℕ) → 0 < i → i ≤ length cs → ((c : ℕ) → Mem c (drop i cs) → P c) → P (getD cs (i - 1) 0) → (c : ℕ) → Mem c (drop (i - 1) cs) → P c
-each-more P cs i some inside each this c p = elim (rw (drop-at cs i some inside) at p) [ inl e ↦ rw e this | inr q ↦ each c q ]
+each-more P cs i some inside each this c p = elim (rw (drop-back cs i some inside) at p) [ inl e ↦ rw e this | inr q ↦ each c q ]
 
 pub each-none : (P : ℕ → Type 0) (cs : List ℕ) (c : ℕ) → Mem c (drop (length cs) cs) → P c
 each-none P cs c p = absurd (rw (drop-length cs) at p)

@@ -96,3 +96,7 @@ overwrite-front (y ∷ l) (x ∷ s) = overwrite-behind l 0 x s ∙ ap (λ (m : L
 pub copied-room : (s d : List ℕ) → length s ≤ length d → copiedOver s d ≡ s ++ drop (length s) d
 unfolding copiedOver
 copied-room s d h = rw (take-all (length d) s h)
+
+-- Going through a list from the back: one number more.
+pub drop-back : (l : List ℕ) (i : ℕ) → 0 < i → i ≤ length l → drop (i - 1) l ≡ getD l (i - 1) 0 ∷ drop i l
+drop-back l i h k = let e : suc (i - 1) ≡ i = omega arith in drop-cons l (i - 1) 0 (omega arith) ∙ ap (λ (j : ℕ). getD l (i - 1) 0 ∷ drop j l) e

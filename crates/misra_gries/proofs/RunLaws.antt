@@ -12,8 +12,11 @@ use lib.Dec.{eqb, ltb}
 use borrow.Author.Tests.{le-ltb, ltb-true, ltb-false, eq-eqb, ne-eqb}
 use native.Mathlib.Numerals.{add-one}
 use Rattle.lists.proofs.Tests.{by-test, dec-eq}
+use Rattle.lists.specs.Member.{Mem}
+use Rattle.lists.proofs.MemberLaws.{mem-getD, place-of}
 use Rattle.graph.specs.Color.{daysOf, noColor}
-use Rattle.graph.proofs.ColorLaws.{days-empty, below-days, days-uncolored, days-raised, days-kept, color-take}
+use Rattle.graph.proofs.ColorLaws.{color-take, color-read}
+use Rattle.days.proofs.DaysLaws.{days-none, days-gapless}
 use Rattle.graph.specs.Colored.{colorOf}
 use Rattle.vizing.specs.MisraGries.{greatestColor, step, heldAfter, held, Held, stepHeld}
 use Rattle.graph.specs.Edges.{edgeCount}
@@ -23,25 +26,16 @@ use Rattle.vizing.proofs.Theorem.{max-degree-bound, admitted-palette}
 use Rattle.vizing.proofs.DefinitionLaws.{step-list, step-edges, step-greatest}
 use Rattle.vizing.specs.Step.{Invariant}
 use Rattle.vizing.proofs.StepLaws.{step-keeps}
-use Rattle.vizing.proofs.Tally.{greatest-step, tally-same}
+use Rattle.vizing.proofs.Tally.{greatest-none, greatest-uncolored, greatest-color, greatest-step, tally-same, Gapless, run-gapless}
 use Rattle.vizing.specs.MisraGries as definition
 use Rattle.vizing.specs.AddEdge.{storedList, ProperlyStored}
 use Rattle.vizing.proofs.AddEdgeLaws.{stored-kept, stored-uncolored, stored-taken}
 use Rattle.repaint.specs.Repaint.{TableOf}
 use Rattle.repaint.proofs.RepaintLaws.{getD-same}
 use Rattle.misra_gries.specs.declared.tally.Tally.{Tally}
-use Rattle.misra_gries.specs.Step.{InRange, Ready, topColor, tallyOf, Tallied, heldOf, stepsFrom, storedHeld, Running}
+use Rattle.misra_gries.specs.Step.{InRange, Ready, topColor, tallyOf, tallyDays, Tallied, heldOf, stepsFrom, storedHeld, Running}
 
 -- ---- Days read off the tally: the greatest colour plus one, or 0 where no edge is coloured
-
--- An uncoloured place does not count, a coloured one does.
-greatest-uncolored : (c : ℕ) (cs : List ℕ) → c ≡ noColor → greatestColor (c ∷ cs) ≡ greatestColor cs
-unfolding greatestColor
-greatest-uncolored c cs e = by-test (ltb (greatestColor cs) c) (λ t. simp (t, eq-eqb c 65535 e)) (λ t. simp t)
-
-greatest-colored : (c : ℕ) (cs : List ℕ) → c ≢ noColor → greatestColor (c ∷ cs) ≡ cond (ltb (greatestColor cs) c) c (greatestColor cs)
-unfolding greatestColor
-greatest-colored c cs n = by-test (ltb (greatestColor cs) c) (λ t. simp (t, ne-eqb c 65535 n)) (λ t. simp t)
 
 -- The places that a list of colours has from m on are uncoloured.
 abbrev Blank : List ℕ → ℕ → Type 0
@@ -56,55 +50,54 @@ greatest-cons : (c : ℕ) (cs ds : List ℕ) → greatestColor cs ≡ greatestCo
 unfolding greatestColor
 greatest-cons c cs ds e = rw e
 
-greatest-none : greatestColor [] ≡ 0
-unfolding greatestColor
-greatest-none = refl
-
 greatest-front : (l : List ℕ) (m : ℕ) → Blank l m → greatestColor l ≡ greatestColor (take m l)
 unfolding colorOf
 greatest-front l zero b = greatest-blank l b ∙ sym greatest-none
 greatest-front [] (suc m) b = refl
 greatest-front (c ∷ cs) (suc m) b = greatest-cons c cs (take m cs) (greatest-front cs m (λ j h. b (suc j) (omega arith)))
 
--- Of any list, the greatest colour is one below its days.
-pub greatest-days : (cs : List ℕ) → greatestColor cs ≡ daysOf cs - 1
-greatest-days [] = greatest-none ∙ (omega (arith, days-empty))
-greatest-days (c ∷ cs) = elim (dec-eq c noColor) [
-  | inl e ↦ greatest-uncolored c cs e ∙ (greatest-days cs ∙ ap (λ (d : ℕ). d - 1) (sym (days-uncolored c cs e)))
-  | inr n ↦ greatest-colored c cs n ∙ elim (decLt c (daysOf cs)) [
-    | yes h ↦ rw (le-ltb (greatestColor cs) c (omega (arith, greatest-days cs)), days-kept c cs h) (greatest-days cs)
-    | no h ↦ rw (days-raised c cs n (omega arith)) (by-test (ltb (greatestColor cs) c)
-        (λ t. simp t (omega arith))
-        (λ t. simp t (omega (arith, greatest-days cs, ltb-false (greatestColor cs) c t))))
+-- Days of the first m colours, the others being uncoloured, from m and the greatest colour alone: there is no gap.
+module _ (l : List ℕ) (m : ℕ) (room : m ≤ length l) (blank : Blank l m) (done : (j : ℕ) → j < m → colorOf l j < noColor) (gapless : Gapless l) where
+  place-member : (j : ℕ) → j < m → Mem (colorOf l j) (take m l)
+  place-member j h =
+      let inside : j < length (take m l) = omega (arith, length-take-le m l room) in
+      rw (color-read (take m l) j noColor inside ∙ color-take l m j h) at (mem-getD (take m l) j noColor inside)
+
+  member-place : (c : ℕ) → Mem c (take m l) → (j : ℕ) × (j < m) × (colorOf l j ≡ c)
+  member-place c p =
+      let r = place-of c (take m l) noColor p in
+      let h : r .0 < m = omega (arith, r .1, length-take-le m l room) in
+      (r .0, h, sym (color-take l m (r .0) h) ∙ (sym (color-read (take m l) (r .0) noColor (r .1)) ∙ r .2))
+
+  -- A place with a colour is one of the first m.
+  colored-place : (j : ℕ) → colorOf l j ≢ noColor → j < m
+  colored-place j n = elim (decLt j m) [ yes h ↦ h | no h ↦ absurd (n (blank j (omega arith))) ]
+
+  greatest-member : 0 < m → Mem (greatestColor l) (take m l)
+  greatest-member edge = elim (greatest-color l .used) [
+    | inl z ↦ let e : colorOf l 0 ≡ greatestColor l = omega (arith, greatest-color l .bound 0 (λ e. omega (arith, done 0 edge)), z) in rw e at (place-member 0 edge)
+    | inr (i, e, n) ↦ rw e at (place-member i (colored-place i (rw e n)))
   ]
-]
 
--- Of coloured places only, one at least.
-days-greatest : (c : ℕ) (cs : List ℕ) → ((j : ℕ) → j < length (c ∷ cs) → colorOf (c ∷ cs) j ≢ noColor) → daysOf (c ∷ cs) ≡ suc (greatestColor (c ∷ cs))
-unfolding colorOf
-days-greatest c cs n = omega (arith, greatest-days (c ∷ cs), below-days (c ∷ cs) c (inl refl) (n 0 (omega arith)))
+  all-members : 0 < m → (c : ℕ) → c < suc (greatestColor l) → Mem c (take m l)
+  all-members edge c h =
+      let r = member-place (greatestColor l) (greatest-member edge) in
+      let small = done (r .0) (r .1) in
+      elim (dec-eq c (greatestColor l)) [
+        | inl e ↦ rw e (greatest-member edge)
+        | inr n ↦
+            let s = gapless (r .0) c (λ e. omega arith) (omega (arith, r .2)) (λ e. omega (arith, r .2)) in
+            rw (s .1) at (place-member (s .0) (colored-place (s .0) (λ e. omega (arith, s .1, r .2))))
+      ]
 
--- Days of the first m colours, the others being uncoloured, from m and the greatest colour alone.
-days-read : (l : List ℕ) (m : ℕ) → m ≤ length l → Blank l m → ((j : ℕ) → j < m → colorOf l j ≢ noColor) → daysOf (take m l) ≡ cond (eqb m 0) 0 (suc (greatestColor l))
-days-read l zero h b n = days-empty
-days-read [] (suc m) h b n = absurd (omega arith)
-days-read (c ∷ cs) (suc m) h b n =
-    rw (ne-eqb (suc m) 0 (λ e. omega arith)) (days-greatest c (take m cs) colored ∙ ap suc (sym (greatest-front (c ∷ cs) (suc m) b)))
-  where
-    colored : (j : ℕ) → j < length (c ∷ take m cs) → colorOf (c ∷ take m cs) j ≢ noColor
-    colored j k e =
-        let below : j < suc m = omega (arith, length-take-le m cs (omega arith)) in
-        n j below (sym (color-take (c ∷ cs) (suc m) j below) ∙ e)
-
--- Of colours in 16 bits, one below the days fits 16 bits.
-pub days-fit : (cs : List ℕ) → ((i : ℕ) → getD cs i 0 < 65536) → daysOf cs ≤ 65536
-days-fit [] b = omega (arith, days-empty)
-days-fit (c ∷ cs) b =
-    let rest = days-fit cs (λ i. b (suc i)) in
-    elim (dec-eq c noColor) [
-      | inl e ↦ omega (arith, rest, days-uncolored c cs e)
-      | inr n ↦ elim (decLt c (daysOf cs)) [ yes h ↦ omega (arith, rest, days-kept c cs h) | no h ↦ omega (arith, b 0, days-raised c cs n (omega arith)) ]
-    ]
+  days-read : daysOf (take m l) ≡ cond (eqb m 0) 0 (suc (greatestColor l))
+  days-read = elim (decLt 0 m) [
+    | yes edge ↦
+        let r = member-place (greatestColor l) (greatest-member edge) in
+        rw (ne-eqb m 0 (λ e. omega arith)) (days-gapless (take m l) (suc (greatestColor l)) (omega (arith, done (r .0) (r .1), r .2))
+        (λ c p n. let q = member-place c p in omega (arith, q .2, greatest-color l .bound (q .0) (rw (q .2) n))) (all-members edge))
+    | no none ↦ let z : m ≡ 0 = omega arith in rw z (days-none [] (λ c p. absurd p))
+  ]
 
 -- ---- the run
 
@@ -198,16 +191,12 @@ module _ (n : ℕ) (ends starts entries work table marks : List ℕ) (t : Tally)
   unfolding stepsFrom
   running-end held e h = let z : edgeCount ends - k ≡ zero = omega arith in rw z at e
 
-  running-days : edgeCount ends ≤ k → cond (eqb (t .edges) 0) 0 (t .greatest + 1) ≡ daysOf (take (edgeCount ends) work)
-  running-days h =
+  running-days : edgeCount ends ≤ k → Gapless work → tallyDays t ≡ daysOf (take (edgeCount ends) work)
+  running-days h g =
       let m = edgeCount ends in
       let e : k ≡ m = omega (arith, running .bound) in
       let i : Invariant ends m (InRange n ends) m work = rw e at (running .kept) in
-      rw (running .edges, e, running .greatest, add-one) (sym (days-read work m running-room (i .rest) (λ j b z. omega (arith, i .done j b, max-degree-bound ends m n, running .admitted .edges))))
-
-  -- The same of what the steps from the start hold.
-  pub rest-days : edgeCount ends ≤ k → (held : Held) → heldOf work t ≡ held → (days : ℕ) → days ≡ cond (eqb (t .edges) 0) 0 (t .greatest + 1) → days ≡ daysOf (take (edgeCount ends) (held .list))
-  rest-days h held e days d = d ∙ (running-days h ∙ ap (λ (x : Held). daysOf (take (edgeCount ends) (x .list))) e)
+      rw (running .edges, e, running .greatest, add-one) (sym (days-read work m running-room (i .rest) (λ j b. omega (arith, i .done j b, max-degree-bound ends m n, running .admitted .edges)) g))
 
 pub rest-colors : (m : ℕ) (work : List ℕ) (t : Tally) (held : Held) → heldOf work t ≡ held → (colors : List ℕ) → colors ≡ take m work → colors ≡ take m (held .list)
 rest-colors m work t held e colors c = c ∙ ap (λ (x : Held). take m (x .list)) e
@@ -230,13 +219,29 @@ module _ (ends : List ℕ) (m n : ℕ) where
   steps-held (suc count) k = let e : suc k + count ≡ k + suc count = omega arith in steps-held count (suc k) ∙ ap (heldAfter ends m n) e
 
 -- From no stored colours: the whole run.
-pub whole-run : (n : ℕ) (ends : List ℕ) → let m = edgeCount ends in take m (stepsFrom ends m n (storedHeld []) 0 (m - 0) .list) ≡ take m (held n ends m)
-unfolding held heldAfter storedList
-whole-run n ends =
+whole-held : (n : ℕ) (ends : List ℕ) → let m = edgeCount ends in stepsFrom ends m n (storedHeld []) 0 (m - 0) ≡ heldAfter ends m n m
+unfolding heldAfter storedList
+whole-held n ends =
     let m = edgeCount ends in
     let c : m - 0 ≡ m = omega arith in
     let z : 0 + m ≡ m = omega arith in
-    rw (c, greatest-none) (ap (λ (x : Held). take m (x .list)) (steps-held ends m n m 0 ∙ ap (heldAfter ends m n) z))
+    rw (c, greatest-none) (steps-held ends m n m 0 ∙ ap (heldAfter ends m n) z)
+
+pub whole-run : (n : ℕ) (ends : List ℕ) → let m = edgeCount ends in take m (stepsFrom ends m n (storedHeld []) 0 (m - 0) .list) ≡ take m (held n ends m)
+unfolding held
+whole-run n ends = ap (λ (x : Held). take (edgeCount ends) (x .list)) (whole-held n ends)
+
+-- Days after the run: from the tally, as it leaves no gap where nothing was stored, or counted.
+pub rest-days : (n : ℕ) (ends starts entries stored work table marks : List ℕ) (t : Tally) → let m = edgeCount ends in let rest = stepsFrom ends m n (storedHeld stored) (length stored) (m - length stored) in
+    Running n ends starts entries work table marks t m → heldOf work t ≡ rest → (colors : List ℕ) → colors ≡ take m (rest .list)
+    → (days : ℕ) → days ≡ cond (eqb (length stored) 0) (tallyDays t) (daysOf colors) → days ≡ daysOf (take m (rest .list))
+rest-days n ends starts entries [] work table marks t running e colors c days d =
+    let m = edgeCount ends in
+    let a = running .admitted in
+    let whole : work ≡ heldAfter ends m n m .list = ap (λ (x : Held). x .list) (e ∙ whole-held n ends) in
+    let gapless : Gapless work = rw whole (run-gapless ends m n (InRange n ends) (a .simple) (a .inside) (a .edges) (admitted-palette n ends a) m (omega arith)) in
+    d ∙ (running-days n ends starts entries work table marks t m running (omega arith) gapless ∙ ap (λ (x : Held). daysOf (take m (x .list))) e)
+rest-days n ends starts entries (x ∷ stored) work table marks t running e colors c days d = (rw (ne-eqb (suc (length stored)) 0 (λ z. omega arith)) at d) ∙ ap daysOf c
 
 -- From the colours of all edges but the last: its step, or none.
 pub last-step : (n : ℕ) (ends : List ℕ) (k : ℕ) → k ≡ edgeCount ends - 1 → (h : Held)

@@ -110,6 +110,10 @@ pub record Turned (n : ℕ) (ends work : List ℕ) (k color : ℕ) (work′ tabl
 abbrev pub tallyOf : Tally → definition.Tally
 tallyOf t = record { edges = t .edges; greatest = t .greatest }
 
+-- The days of colours without a gap.
+abbrev pub tallyDays : Tally → ℕ
+tallyDays t = cond (eqb (t .edges) 0) 0 (t .greatest + 1)
+
 -- one edge more, of the colour c
 abbrev pub notedOf : Tally → ℕ → Tally
 notedOf t c = record {

@@ -18,7 +18,7 @@ use graph::Coloring;
 use graph::Graph;
 use graph::Refusal;
 use graph::copy_colors;
-use run::days_of_tally;
+use run::days_after;
 use run::run;
 use simple_graph::check_simple;
 use stored_colors::color_stored;
@@ -70,7 +70,7 @@ fn color_from(
     );
     let edges = ends.len() / 2;
     copy_colors(&work[..edges], colors);
-    let days = days_of_tally(tally);
+    let days = days_after(tally, stored.len(), colors);
     Coloring::Accepted { days }
 }
 

@@ -1,12 +1,14 @@
 // The run over the edges, all or the last.
 ghost use mathlib.Core.Path.{_≡_};
 ghost use mathlib.Core.Bool.{cond};
-ghost use Prim.Native.Nat.{_-_, _+_};
+ghost use Prim.Native.Nat.{_-_};
 ghost use lib.Dec.{eqb};
 ghost use Rattle.graph.specs.Edges.{edgeCount};
-ghost use Rattle.misra_gries.specs.Step.{Running, heldOf, stepsFrom};
+ghost use Rattle.graph.specs.Color.{daysOf};
+ghost use Rattle.misra_gries.specs.Step.{Running, heldOf, stepsFrom, tallyDays};
 use crate::tally::Tally;
 use crate::tally::step_by_value;
+use days::days_of;
 use graph::EdgeIndex;
 
 // Colours every edge from this one on in turn, and tallies them beside those before.
@@ -47,12 +49,22 @@ pub(crate) fn run(
     so_far
 }
 
-// Days from the tally: the list is not gone through again.
+// Days from the tally, of colours without a gap: the list is not gone through again.
 pub(crate) fn days_of_tally(tally: Tally) -> usize
-    ensures answer { λ r. ⌜ r ≡ cond (eqb (tally .edges) 0) 0 (tally .greatest + 1) ⌝ }
+    ensures answer { λ r. ⌜ r ≡ tallyDays tally ⌝ }
 {
     if tally.edges == 0 {
         return 0;
     }
     tally.greatest as usize + 1
+}
+
+// Days after a run. From no stored colours it leaves no gap, and the tally tells them; stored colours may have gaps, so the list is counted.
+pub(crate) fn days_after(tally: Tally, stored: usize, colors: &[u16]) -> usize
+    ensures answer { λ r. let colors = now (colors .entry) in ⌜ r ≡ cond (eqb stored 0) (tallyDays tally) (daysOf colors) ⌝ }
+{
+    if stored == 0 {
+        return days_of_tally(tally);
+    }
+    days_of(colors)
 }

@@ -2,7 +2,7 @@
 use crate::steps::step;
 use graph::Color;
 use graph::EdgeIndex;
-use graph::days_of;
+use stored_colors::greatest_stored;
 ghost use mathlib.Core.Path.{_≡_};
 ghost use Prim.Native.Nat.{_<_, _+_, _^_};
 ghost use lib.ListN.{length};
@@ -19,17 +19,10 @@ pub(crate) struct Tally {
 pub(crate) fn tally_of(stored: &[u16]) -> Tally
     ensures answer { λ r. let stored = now (stored .entry) in ⌜ (r .edges ≡ length stored) × (r .greatest ≡ greatestColor stored) ⌝ }
 {
-    let edges = stored.len();
-    let days = days_of(stored);
-    if days == 0 {
-        return Tally {
-            edges: edges,
-            greatest: 0,
-        };
-    }
+    let greatest = greatest_stored(stored);
     Tally {
-        edges: edges,
-        greatest: (days - 1) as u16,
+        edges: stored.len(),
+        greatest: greatest,
     }
 }
 

@@ -1,17 +1,22 @@
--- Laws of the lengths, of D, and of the stored colours in the working list and the table.
+-- Laws of the lengths, of D, of the greatest, and of the stored colours in the working list and the table.
 use Prim.Native.Nat.{ℕ, suc, _+_, _-_, _*_, _≤_, _<_, max}
 use mathlib.Core.Path.{_≡_, refl, sym, ap, _∙_}
+use mathlib.Core.Logic.{_⊎_, inl, inr, _≢_}
 use mathlib.Core.List.{List, _∷_}
 use mathlib.Core.Bool.{Bool, true, false, not, _&&_}
 use native.Mathlib.Omega.{arith}
 use native.Mathlib.Numerals.{add-one}
 use lib.ListN.{length, getD, drop, drop-of-length-le}
-use lib.Seq.{drop-cons}
+use lib.Seq.{drop-cons, drop-length}
 use lib.Dec.{eqb, ltb}
 use borrow.Author.Tests.{eq-eqb, ne-eqb, lt-ltb, le-ltb, not-true, not-false}
 use Rattle.lists.proofs.Tests.{and-false, and-right}
+use Rattle.lists.proofs.PartsLaws.{drop-back}
+use Rattle.graph.specs.Color.{noColor}
 use Rattle.graph.specs.Edges.{firstEnd, secondEnd}
 use Rattle.graph.specs.Stretch.{stretch}
+use Rattle.vizing.specs.MisraGries.{greatestColor}
+use Rattle.vizing.proofs.Tally.{greatest-none, greatest-uncolored, greatest-colored}
 use Rattle.edge_table.specs.EdgeTable.{isEmpty}
 use Rattle.repaint.specs.Repaint.{State, state, colored}
 use Rattle.stored_colors.specs.Stored.{longestStretch, mayTake, Stored, storedFrom, colorStored}
@@ -100,3 +105,26 @@ module _ (ends stored : List ℕ) (limit : ℕ) (s : State) (k : ℕ) (r : Store
   pub stored-end : length stored ≤ k → (true ≡ r .all) × (s ≡ r .state)
   unfolding storedFrom
   stored-end h = let f = rw (drop-of-length-le stored {i = k} h) at e in (ap (λ (x : Stored). x .all) f, ap (λ (x : Stored). x .state) f)
+
+-- ---- the greatest, from the back
+
+pub greatest-start : (cs : List ℕ) → 0 ≡ greatestColor (drop (length cs) cs)
+greatest-start cs = rw (drop-length cs) (sym greatest-none)
+
+pub greatest-all : (cs : List ℕ) (k g : ℕ) → g ≡ greatestColor (drop k cs) → k ≤ 0 → g ≡ greatestColor cs
+greatest-all cs k g e h = let z : k ≡ 0 = omega arith in e ∙ ap (λ (j : ℕ). greatestColor (drop j cs)) z
+
+-- A colour alone, 0 for the mark.
+abbrev ColorAlone : ℕ → ℕ → Type 0
+ColorAlone c color = ((c ≡ noColor) × (color ≡ 0)) ⊎ ((c ≢ noColor) × (color ≡ c))
+
+module _ (cs : List ℕ) (k g color : ℕ) (e : g ≡ greatestColor (drop k cs)) (h : 0 < k) (b : k ≤ length cs) where
+  pub greatest-more : ColorAlone (getD cs (k - 1) 0) color → g < color → color ≡ greatestColor (drop (k - 1) cs)
+  greatest-more (inl (p, q)) l = absurd (omega arith)
+  greatest-more (inr (p, q)) l =
+      rw (drop-back cs k h b, greatest-colored (getD cs (k - 1) 0) (drop k cs) p, lt-ltb (greatestColor (drop k cs)) (getD cs (k - 1) 0) (omega arith)) q
+
+  pub greatest-same : ColorAlone (getD cs (k - 1) 0) color → color ≤ g → g ≡ greatestColor (drop (k - 1) cs)
+  greatest-same (inl (p, q)) l = rw (drop-back cs k h b, greatest-uncolored (getD cs (k - 1) 0) (drop k cs) p) e
+  greatest-same (inr (p, q)) l =
+      rw (drop-back cs k h b, greatest-colored (getD cs (k - 1) 0) (drop k cs) p, le-ltb (greatestColor (drop k cs)) (getD cs (k - 1) 0) (omega arith)) e

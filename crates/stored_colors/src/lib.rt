@@ -1,4 +1,4 @@
-// Stored colours of the first edges of a list: their number, D, and the working list and the edge table made from them. Every function is total: what
+// Stored colours of the first edges of a list: their number, the greatest, D, and the working list and the edge table made from them. Every function is total: what
 // lies outside a slice reads as its default and takes no store.
 use edge_table::is_free;
 use edge_walk::edges_at;
@@ -12,6 +12,7 @@ ghost use mathlib.Core.Path.{_≡_};
 ghost use mathlib.Core.Bool.{_&&_};
 ghost use Prim.Native.Nat.{_-_};
 ghost use lib.Dec.{eqb};
+ghost use Rattle.vizing.specs.MisraGries.{greatestColor};
 ghost use Rattle.repaint.specs.Repaint.{state};
 ghost use Rattle.stored_colors.specs.Stored.{longestStretch, mayTake, colorStored};
 
@@ -89,4 +90,21 @@ pub fn color_stored(
         k += 1;
     }
     true
+}
+
+// The greatest of the stored colours, 0 without any. A choice without a branch, so that the compiler can take many at once.
+pub fn greatest_stored(stored: &[u16]) -> u16
+    ensures answer { λ r. ⌜ r ≡ greatestColor (now (stored .entry)) ⌝ }
+{
+    let mut greatest = 0;
+    let mut k = stored.len();
+    while 0 < k {
+        k -= 1;
+        let c = stored[k];
+        let color = if c == Color::NONE { 0 } else { c };
+        if greatest < color {
+            greatest = color;
+        }
+    }
+    greatest
 }

@@ -1,4 +1,4 @@
--- The tally: edges coloured, and the greatest colour.
+-- The tally: edges coloured, and the greatest colour. And that the run leaves no gap below it.
 use Prim.Native.Nat.{ℕ, zero, suc, _≤_, _<_, max}
 use mathlib.Core.Path.{_≡_, refl, ap, ap₂, sym, _∙_}
 use mathlib.Core.List.{List, [], _∷_}
@@ -8,21 +8,23 @@ use native.Mathlib.Omega.{arith}
 use native.Mathlib.Decide.{decLt}
 use lib.ListN.{length}
 use lib.Dec.{eqb, ltb}
-use borrow.Author.Tests.{eqb-false, ne-eqb, ltb-true, ltb-false, not-true}
-use Rattle.vizing.specs.MisraGries.{Tally, greatestColor, find, step}
+use borrow.Author.Tests.{eqb-false, eq-eqb, ne-eqb, ltb-true, ltb-false, not-true}
+use Rattle.vizing.specs.MisraGries.{Tally, greatestColor, find, step, heldAfter}
 -- No name of it is used: the rows are to be checked before the laws, so that a wrong definition is refused for what it gives.
 use Rattle.vizing.specs.Answers
 use Rattle.lists.proofs.Tests.{by-test, and-true, true-and}
 use Rattle.lists.specs.Member.{Mem, Nodup}
 use Rattle.lists.proofs.MemberLaws.{dec-mem}
-use Rattle.graph.specs.Edges.{firstEnd, secondEnd}
+use Rattle.graph.specs.Edges.{firstEnd, secondEnd, edgesAt}
 use Rattle.graph.specs.Color.{noColor}
 use Rattle.graph.specs.Colored.{colorOf}
-use Rattle.vizing.proofs.StepForm.{StepParts, stepParts, find-form}
+use Rattle.graph.proofs.ColorLaws.{smaller-stands, color-replicate}
+use Rattle.vizing.proofs.StepForm.{StepParts, stepParts, lastFarEnd, find-form}
+use Rattle.vizing.proofs.DefinitionLaws.{step-list}
 use Rattle.vizing.specs.Simple.{Simple}
 use Rattle.vizing.proofs.AlternatingPath.{swap-left, swap-right, path-edge, Exchanged, starts-with-d, at-start, exchange-uncolored}
 use Rattle.vizing.proofs.Fan.{lastEdge, Rotated, rotated-other, rotated-last, rotated-from, rotated-to}
-use Rattle.vizing.proofs.StepLaws.{Palette, FoundLaws, found-laws}
+use Rattle.vizing.proofs.StepLaws.{Palette, FoundLaws, found-laws, run-keeps}
 use Rattle.vizing.specs.Step.{Invariant}
 
 -- A tally is its two numbers.
@@ -33,15 +35,28 @@ tally-same a b p q = ap₂ {C = Tally} (λ (x y : ℕ). record { edges = x; grea
 
 -- ---- the greatest colour of a list
 
+-- An uncoloured place does not count, a coloured one does.
+pub greatest-none : greatestColor [] ≡ 0
+unfolding greatestColor
+greatest-none = refl
+
+pub greatest-uncolored : (c : ℕ) (cs : List ℕ) → c ≡ noColor → greatestColor (c ∷ cs) ≡ greatestColor cs
+unfolding greatestColor
+greatest-uncolored c cs e = by-test (ltb (greatestColor cs) c) (λ t. simp (t, eq-eqb c noColor e)) (λ t. simp t)
+
+pub greatest-colored : (c : ℕ) (cs : List ℕ) → c ≢ noColor → greatestColor (c ∷ cs) ≡ cond (ltb (greatestColor cs) c) c (greatestColor cs)
+unfolding greatestColor
+greatest-colored c cs n = by-test (ltb (greatestColor cs) c) (λ t. simp (t, ne-eqb c noColor n)) (λ t. simp t)
+
 -- No colour of the list is greater than x, and x is one of them or 0.
-record Greatest (l : List ℕ) (x : ℕ) : Type 0 where
-  bound : (i : ℕ) → colorOf l i ≢ noColor → colorOf l i ≤ x
-  used : (x ≡ 0) ⊎ ((i : ℕ) × (colorOf l i ≡ x) × (x ≢ noColor))
+pub record Greatest (l : List ℕ) (x : ℕ) : Type 0 where
+  pub bound : (i : ℕ) → colorOf l i ≢ noColor → colorOf l i ≤ x
+  pub used : (x ≡ 0) ⊎ ((i : ℕ) × (colorOf l i ≡ x) × (x ≢ noColor))
 
 used-bound : (l : List ℕ) (x y : ℕ) → Greatest l x → Greatest l y → x ≤ y
 used-bound l x y p q = elim (p .used) [ inl z ↦ omega arith | inr (i, z, n) ↦ rw z at (q .bound i (rw z n)) ]
 
-greatest-color : (l : List ℕ) → Greatest l (greatestColor l)
+pub greatest-color : (l : List ℕ) → Greatest l (greatestColor l)
 unfolding greatestColor colorOf
 greatest-color [] = record { bound = λ i n. absurd (n refl); used = inl refl }
 greatest-color (c ∷ cs) = go (greatest-color cs) (ltb (greatestColor cs) c && not (eqb c noColor)) refl
@@ -84,6 +99,10 @@ greatest-raised l h x still j e color-x from =
       bound = λ i n. elim (from i n) [ inl b ↦ omega arith | inr z ↦ omega arith ];
       used = in-use (max (greatestColor l) x) (elim (decLt (greatestColor l) x) [ yes b ↦ inr (omega arith) | no b ↦ inl (omega arith) ]);
     }
+
+-- Each colour that is smaller than one of the list's is in use too.
+abbrev pub Gapless : List ℕ → Type 0
+Gapless l = (i b : ℕ) → colorOf l i ≢ noColor → b < colorOf l i → b ≢ noColor → (j : ℕ) × (colorOf l j ≡ b)
 
 -- ---- the colours in use after the exchange and after the rotation
 
@@ -150,29 +169,54 @@ module _ (ends : List ℕ) (m n : ℕ) (Ok : ℕ → Type 0) (S : Simple ends m)
   ]
 
   -- A colour afterwards is an old one, d, or c where there is a path.
-  origin : (i : ℕ) → colorOf after i ≢ noColor
-      → (colorOf after i ≤ greatestColor l) ⊎ ((colorOf after i ≡ found .d) ⊎ ((colorOf after i ≡ found .c) × ((e : ℕ) × Mem e (found .path))))
-  origin i colored = elim (rotation-from (T .rotation) (T .places-nodup) i) [
-    | inl (j, z) ↦ elim (exchange-from (T .exchange) j) [
-      | inl (e, y) ↦ inl (rw (z ∙ y) (greatest-color l .bound e (λ x. colored (z ∙ y ∙ x))))
-      | inr (y, e) ↦ inr (inr (z ∙ y, e))
-    ]
+  origin : (i : ℕ) → ((e : ℕ) × (colorOf after i ≡ colorOf l e)) ⊎ ((colorOf after i ≡ found .d) ⊎ ((colorOf after i ≡ found .c) × ((e : ℕ) × Mem e (found .path))))
+  origin i = elim (rotation-from (T .rotation) (T .places-nodup) i) [
+    | inl (j, z) ↦ elim (exchange-from (T .exchange) j) [ inl (e, y) ↦ inl (e, z ∙ y) | inr (y, e) ↦ inr (inr (z ∙ y, e)) ]
     | inr z ↦ inr (inl z)
   ]
 
+  old-bound : (i e : ℕ) → colorOf after i ≢ noColor → colorOf after i ≡ colorOf l e → colorOf after i ≤ greatestColor l
+  old-bound i e colored z = rw z (greatest-color l .bound e (λ x. colored (z ∙ x)))
+
   raised : (p : List ℕ) → found .path ≡ p → greatestColor after ≡ max (greatestColor l) (cond (eqb (length p) 0) (found .d) (found .c))
   raised [] e = greatest-raised l after (found .d) still (lastEdge k (found .places)) (rotated-last (T .rotation)) (T .exchange .color-d)
-      (λ i colored. elim (origin i colored) [ inl b ↦ inl b | inr r ↦ elim r [ inl z ↦ inr z | inr (z, x) ↦ absurd (rw e at (x .1)) ] ])
+      (λ i colored. elim (origin i) [ inl (j, z) ↦ inl (old-bound i j colored z) | inr r ↦ elim r [ inl z ↦ inr z | inr (z, x) ↦ absurd (rw e at (x .1)) ] ])
   raised (x ∷ p) e =
       let r = first-of-path (T .exchange) x (rw e (inl refl)) in
       let s = exchanged-still (r .0) (rw (r .2) (T .exchange .color-c)) in
       rw (ne-eqb (suc (length p)) 0 (λ z. omega arith))
       (greatest-raised l after (found .c) still (s .0) (s .1 ∙ r .2) (T .exchange .color-c)
-      (λ i colored. elim (origin i colored) [
-        | inl b ↦ inl b
+      (λ i colored. elim (origin i) [
+        | inl (j, y) ↦ inl (old-bound i j colored y)
         | inr q ↦ elim q [ inl z ↦ inl (rw (z ∙ sym (r .1)) (greatest-color l .bound (r .0) (rw (r .1) (T .exchange .color-d)))) | inr (z, y) ↦ inr z ]
       ]))
 
   -- Either the path is empty and only d can be new, or its first edge had d and only c can be new.
   pub greatest-step : greatestColor (step ends m n l k) ≡ max (greatestColor l) (cond (eqb (length (find ends m n l k .path)) 0) (find ends m n l k .d) (find ends m n l k .c))
   greatest-step = let s = find-form ends m n l k in rw (s .path, s .c, s .d) (raised (found .path) refl)
+
+  -- What the step adds is the smallest free colour at a node, so that each smaller one stands there; and no colour is lost.
+  pub step-gapless : Gapless l → Gapless (step ends m n l k)
+  unfolding stepParts
+  step-gapless gapless i b colored less color =
+      let r = before in
+      let s = still (r .0) (rw (r .1) color) in
+      (s .0, s .1 ∙ r .1)
+    where
+      before : (j : ℕ) × (colorOf l j ≡ b)
+      before = elim (origin i) [
+        | inl (e, z) ↦ gapless e b (λ x. colored (z ∙ x)) (rw z at less) color
+        | inr q ↦ elim q [
+          | inl z ↦ let r = smaller-stands l (edgesAt ends m (lastFarEnd ends (firstEnd ends k) (secondEnd ends k) (found .fan))) b (rw z at less) in (r .0, r .2)
+          | inr (z, x) ↦ let r = smaller-stands l (edgesAt ends m (firstEnd ends k)) b (rw z at less) in (r .0, r .2)
+        ]
+      ]
+
+-- The run begins without a colour.
+pub run-gapless : (ends : List ℕ) (m n : ℕ) (Ok : ℕ → Type 0) → Simple ends m → ((k : ℕ) → k < m → (firstEnd ends k < n) × (secondEnd ends k < n)) → m ≤ 4096 → Palette ends m n Ok
+    → (k : ℕ) → k ≤ m → Gapless (heldAfter ends m n k .list)
+unfolding heldAfter
+run-gapless ends m n Ok S inside small P zero h = λ i b colored. absurd (colored (color-replicate 4096 i))
+run-gapless ends m n Ok S inside small P (suc k) h =
+    rw (step-list ends m n (heldAfter ends m n k) k)
+    (step-gapless ends m n Ok S inside small P (heldAfter ends m n k .list) k h (run-keeps ends m n Ok S inside small P k (omega arith)) (run-gapless ends m n Ok S inside small P k (omega arith)))

@@ -3,13 +3,14 @@ use mathlib.Core.Bool.{true}
 use mathlib.Core.List.{List, [], _∷_}
 use mathlib.Core.Path.{_≡_, refl}
 use Rattle.lists.specs.Member.{elem}
+use Rattle.lists.specs.Different.{distinct, different}
 use Rattle.lists.specs.Equal.{equal}
 use Rattle.lists.specs.Search.{any, allBelow, firstPlace, firstThat}
 use Rattle.graph.specs.Report.{accepted, refused}
 use Rattle.graph.specs.Rows.{Row, sameReport, holds, allHold}
 use Rattle.graph.specs.Check.{firstRefusal, answered, written, graphChecks}
 use Rattle.graph.specs.Edges.{firstEnd, secondEnd, isLoop, farEnd, secondAt, firstEdges, secondEdges, edgesAt}
-use Rattle.graph.specs.Color.{colored, daysOf, smallestFree, smallestFrom}
+use Rattle.graph.specs.Color.{colored, colorsIn, daysOf, smallestFree, smallestFrom}
 use Rattle.graph.specs.Colored.{colorOf, isColored, coloredAmong, smallestFreeAt}
 use Rattle.vizing.specs.MisraGries.{edgeOfColor, isFree, store, joins, firstJoining, lastOf, fanFrom, fanOf, path, swap, exchange, firstFreePlace, rotate, Tally, greatestColor, find, step, stepHeld, heldAfter, held, hasLoop, sameEnds, hasDoubleEdge, misraGriesChecks, misraGries}
 
@@ -30,7 +31,7 @@ rows =
     ∷ []
 
 pub examples : allHold rows ≡ true
-unfolding allHold rows holds sameReport equal colored daysOf graphChecks firstRefusal answered written allBelow elem any firstEnd secondEnd isLoop farEnd secondAt firstEdges secondEdges edgesAt smallestFree smallestFrom colorOf isColored edgeOfColor isFree coloredAmong smallestFreeAt store joins firstJoining lastOf fanFrom fanOf path swap exchange firstPlace firstThat firstFreePlace rotate greatestColor find step stepHeld heldAfter held hasLoop sameEnds hasDoubleEdge misraGriesChecks misraGries
+unfolding allHold rows holds sameReport equal colored daysOf colorsIn different distinct graphChecks firstRefusal answered written allBelow elem any firstEnd secondEnd isLoop farEnd secondAt firstEdges secondEdges edgesAt smallestFree smallestFrom colorOf isColored edgeOfColor isFree coloredAmong smallestFreeAt store joins firstJoining lastOf fanFrom fanOf path swap exchange firstPlace firstThat firstFreePlace rotate greatestColor find step stepHeld heldAfter held hasLoop sameEnds hasDoubleEdge misraGriesChecks misraGries
 examples = refl
 
 -- The tally of P13's run after its last edge: 4 edges coloured, the greatest colour 2.

@@ -20,16 +20,15 @@ returns c =
 
 returns-2 : tie.Need-returns-2
 returns-2 c =
-    let at-copy-colors = c .before .before .before in let at-run = at-copy-colors .before .before .before .before .before .before in let at-tally-of = at-run .before .before .before .before in let at-if1 = at-tally-of .before in
+    let at-copy-colors = c .before .before .before .before in let at-run = at-copy-colors .before .before .before .before .before .before in let at-tally-of = at-run .before .before .before .before in let at-if1 = at-tally-of .before in
     let at-color-stored = at-if1 .before .before .before in let at-max-degree = at-color-stored .before .before .before in let at-entry = at-max-degree .before .before .before .before .before .before in
     let pre = at-entry .pre in
     let entered = at-color-stored .color-stored .ensures in
     let yes = stored-yes _ _ _ (pre .0) (pre .1 .1 .0) _ (at-max-degree .max-degree .ensures ∙ longest-degree _ _ _ _ (pre .1 .0)) 294912 refl _ _ _ (entered .0) (entered .1) (not-false _ (at-if1 .if1 .left)) in
     let r = at-run .run .ensures in
     let held = rest-held _ _ _ _ _ _ _ _ _ _ (r .1) (yes .1) (at-tally-of .tally-of .ensures) in
-    from-accepted _ _ _ _ (yes .0) _ _
-    (rest-days _ _ _ _ _ _ _ _ _ (r .0) (omega arith) _ held _ (c .days-of-tally .ensures))
-    (rest-colors (edgeCount (at-entry .args .ends .now)) _ _ _ held _ (at-copy-colors .copy-colors .ensures ∙ copied-same _ _ (pre .1 .1 .1 ∙ sym (length-take-le _ _ (running-room _ _ _ _ _ _ _ _ _ (r .0))))))
+    let colors = rest-colors (edgeCount (at-entry .args .ends .now)) _ _ _ held _ (at-copy-colors .copy-colors .ensures ∙ copied-same _ _ (pre .1 .1 .1 ∙ sym (length-take-le _ _ (running-room _ _ _ _ _ _ _ _ _ (r .0))))) in
+    from-accepted _ _ _ _ (yes .0) _ _ (rest-days _ _ _ _ _ _ _ _ _ (r .0) held _ colors _ (c .days-after .ensures)) colors
 
 run-requires : tie.Need-run-requires
 run-requires c κs =
