@@ -1,6 +1,8 @@
 // The C interface. Each call answers 0 where it accepted, or the refusal's number, and hands its report back through a pointer,
 // which is unchanged on a refusal. include/wulgranite.h declares these functions for C.
 ghost use Prim.Native.Nat.{ℕ};
+ghost use mathlib.Core.Path.{_≡_};
+ghost use mathlib.Core.Bool.{cond};
 ghost use mathlib.Core.List.{List};
 ghost use Rattle.graph.specs.Table.{incidenceOf};
 ghost use Rattle.two_color.specs.TwoColor.{twoColor};
@@ -10,6 +12,7 @@ ghost use Rattle.greedy.specs.Call.{greedyNodes, greedyNodesPlain, greedyEdgesP
 ghost use Rattle.vizing.specs.MisraGries.{misraGries};
 ghost use Rattle.vizing.specs.AddEdge.{addEdge};
 ghost use Rattle.file_layout.specs.Outcomes.{readFile, writeFile};
+ghost use Rattle.days.specs.FewerDays.{fewerDays};
 ghost use Rattle.c_answer.specs.Answer.{Answered};
 ghost use Rattle.capi.specs.Strategy.{nodesByNumber, edgesByNumber};
 use c_answer::StrategyNumber;
@@ -20,6 +23,7 @@ use c_answer::answer_line_list;
 use c_answer::answer_writing;
 use c_answer::strategy_of;
 use c_answer::unknown_strategy;
+use days::fewer_days_part;
 
 #[no_mangle]
 pub extern "C" fn wg_incidence(
@@ -223,4 +227,20 @@ pub extern "C" fn wg_write_graph_file(
         wulgranite::write_graph_file(n, ends, colors, tags, method, output),
         length,
     )
+}
+
+// Which of two lists has fewer days among its first m numbers: 0 for the first, 1 for the second. `*length` is m, or 0 if a list is shorter.
+#[no_mangle]
+pub extern "C" fn wg_fewer_days(
+    first: &[u16],
+    second: &[u16],
+    m: usize,
+    length: &mut usize,
+) -> u32
+    ensures list { λ r. let part = fewerDays (now (first .entry)) (now (second .entry)) m in ⌜ r ≡ cond (part .second) 1 0 ⌝ }
+    ensures length { λ _. let part = fewerDays (now (first .entry)) (now (second .entry)) m in ⌜ now (length .exit) ≡ part .length ⌝ }
+{
+    let part = fewer_days_part(first, second, m);
+    *length = part.length;
+    if part.second { 1 } else { 0 }
 }

@@ -1,3 +1,4 @@
--- Numbers within bounds, and the thriftier of two lists.
+-- Numbers within bounds, and the choice between two lists, with examples.
 pub mod Within
 pub mod FewerDays
+pub mod Examples

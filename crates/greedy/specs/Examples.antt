@@ -10,7 +10,7 @@ use Rattle.lists.specs.Search.{allBelow}
 use Rattle.graph.specs.Report.{accepted}
 use Rattle.graph.specs.Check.{firstRefusal, answered, written, graphChecks}
 use Rattle.graph.specs.Edges.{firstEnd, secondEnd, isLoop, farEnd, secondAt, firstEdges, secondEdges, edgesAt, edgeCount, neighbors}
-use Rattle.graph.specs.Color.{colored, daysOf, smallestFree, smallestFrom, noColor}
+use Rattle.graph.specs.Color.{colored, colorsIn, daysOf, smallestFree, smallestFrom, noColor}
 use Rattle.graph.specs.Colored.{colorOf, isColored, coloredAmong, smallestFreeAt}
 use Rattle.graph.specs.Rows.{Row, sameReport, holds, allHold}
 use Rattle.line_list.specs.LineList.{pairsWith, pairsOf, linePairs}
@@ -18,7 +18,7 @@ use Rattle.greedy.specs.Turn.{uncolored, colorItem}
 use Rattle.greedy.specs.Degree.{insertByDegree, byDegree, colorInOrder, degreeOrder, degreeColors}
 use Rattle.greedy.specs.Saturation.{uncoloredAmong, saturation, uncoloredNeighbors, greater, greatest, saturationFrom, saturationColors, noneGreater, legalTurn, legalRun}
 use Rattle.greedy.specs.IndependentSet.{placeOf, takeOut, putOff, putOffAll, putOffPresets, colorListed, round, rounds, independentSetColors}
-use Rattle.greedy.specs.Call.{itemChecks, greedyItems, greedyItemsPlain, greedyNodes, greedyNodesPlain, edgeNeighbors, greedyEdgesPlain}
+use Rattle.greedy.specs.Call.{itemChecks, greedyItems, greedyItemsPlain, greedyNodes, greedyNodesPlain, edgeNeighbors, greedyEdges, greedyEdgesPlain}
 
 -- The edges (0,1),(1,2),(2,3).
 abbrev path : List ℕ
@@ -36,8 +36,8 @@ rows =
     record { outcome = greedyNodesPlain degreeColors 3 (0 ∷ 1 ∷ 0 ∷ 2 ∷ []) (9 ∷ 9 ∷ 9 ∷ []); report = accepted 2; colors = 0 ∷ 1 ∷ 1 ∷ [] }
     -- P7: node 0 preset 1: 1,0,0
     ∷ record { outcome = greedyNodes degreeColors 3 (0 ∷ 1 ∷ 0 ∷ 2 ∷ []) (1 ∷ noColor ∷ noColor ∷ []) (9 ∷ 9 ∷ 9 ∷ []); report = accepted 2; colors = 1 ∷ 0 ∷ 0 ∷ [] }
-    -- P8: (0,1) presets 4,4: 4,4
-    ∷ record { outcome = greedyNodes degreeColors 2 (0 ∷ 1 ∷ []) (4 ∷ 4 ∷ []) (9 ∷ 9 ∷ []); report = accepted 5; colors = 4 ∷ 4 ∷ [] }
+    -- P8: (0,1) presets 4,4: 4,4, one day; sees a colour counted twice
+    ∷ record { outcome = greedyNodes degreeColors 2 (0 ∷ 1 ∷ []) (4 ∷ 4 ∷ []) (9 ∷ 9 ∷ []); report = accepted 1; colors = 4 ∷ 4 ∷ [] }
     -- Degree (0,1),(1,2),(2,3): 1,0,1,0; sees an unstable order, and degrees rising
     ∷ record { outcome = greedyNodesPlain degreeColors 4 path lent; report = accepted 2; colors = 1 ∷ 0 ∷ 1 ∷ 0 ∷ [] }
     -- P9: Saturation (0,1),(1,2),(2,3): 1,0,1,0
@@ -64,10 +64,12 @@ rows =
     }
     -- P12: greedy_edge_color (0,1),(1,2),(0,2),(2,3): 2,0,1,2
     ∷ record { outcome = greedyEdgesPlain degreeColors 4 (0 ∷ 1 ∷ 1 ∷ 2 ∷ 0 ∷ 2 ∷ 2 ∷ 3 ∷ []) lent; report = accepted 3; colors = 2 ∷ 0 ∷ 1 ∷ 2 ∷ [] }
+    -- "A list with two matches, preset on days 9 and 0": two days (02, Point 4); sees the greatest colour plus one
+    ∷ record { outcome = greedyEdges degreeColors 4 (0 ∷ 1 ∷ 2 ∷ 3 ∷ []) (9 ∷ 0 ∷ []) (8 ∷ 8 ∷ []); report = accepted 2; colors = 9 ∷ 0 ∷ [] }
     ∷ []
 
 pub examples : allHold rows ≡ true
-unfolding allHold rows holds sameReport equal elem distinct different allBelow firstRefusal answered written graphChecks firstEnd secondEnd isLoop farEnd secondAt firstEdges secondEdges edgesAt neighbors colored daysOf smallestFree smallestFrom colorOf isColored coloredAmong smallestFreeAt pairsWith pairsOf linePairs uncolored colorItem insertByDegree byDegree colorInOrder degreeOrder degreeColors uncoloredAmong saturation uncoloredNeighbors greater greatest saturationFrom saturationColors placeOf takeOut putOff putOffAll putOffPresets colorListed round rounds independentSetColors itemChecks greedyItems greedyItemsPlain greedyNodes greedyNodesPlain edgeNeighbors greedyEdgesPlain
+unfolding allHold rows holds sameReport equal elem distinct different allBelow firstRefusal answered written graphChecks firstEnd secondEnd isLoop farEnd secondAt firstEdges secondEdges edgesAt neighbors colored daysOf colorsIn smallestFree smallestFrom colorOf isColored coloredAmong smallestFreeAt pairsWith pairsOf linePairs uncolored colorItem insertByDegree byDegree colorInOrder degreeOrder degreeColors uncoloredAmong saturation uncoloredNeighbors greater greatest saturationFrom saturationColors placeOf takeOut putOff putOffAll putOffPresets colorListed round rounds independentSetColors itemChecks greedyItems greedyItemsPlain greedyNodes greedyNodesPlain edgeNeighbors greedyEdges greedyEdgesPlain
 examples = refl
 
 -- ---- runs of Saturation over the nodes of a graph
