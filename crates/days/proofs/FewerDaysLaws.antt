@@ -2,16 +2,17 @@
 use Prim.Native.Nat.{ℕ, zero, suc, _-_, _≤_, _<_}
 use mathlib.Core.Path.{_≡_, refl, sym, ap, _∙_}
 use mathlib.Core.Logic.{_≢_}
-use mathlib.Core.List.{List}
+use mathlib.Core.List.{List, []}
 use mathlib.Core.Bool.{Bool, true, false}
 use native.Mathlib.Omega.{arith}
 use lib.ListN.{length, drop, getD, take}
 use lib.Dec.{ltb}
 use borrow.Author.Tests.{lt-ltb, le-ltb, ltb-false}
 use Rattle.lists.specs.Member.{Mem, elem}
+use Rattle.lists.specs.Different.{distinct, different}
 use Rattle.lists.proofs.Tests.{by-test}
 use Rattle.lists.proofs.MemberLaws.{mem-elem, not-mem-elem, mem-getD}
-use Rattle.graph.specs.Color.{noColor, daysOf}
+use Rattle.graph.specs.Color.{noColor, colorsIn, daysOf}
 use Rattle.days.specs.declared.LeadingPart.{LeadingPart}
 use Rattle.days.specs.FewerDays.{secondChosen, fewerDays}
 use Rattle.days.proofs.CountLaws.{each-all}
@@ -38,6 +39,11 @@ module _ (first second : List ℕ) (b : Bool) (e : b ≡ elem noColor second) wh
     unfolding secondChosen
     by-days t x y p q = rw (p, q) (simp (sym e ∙ f, sym d ∙ t))
 
+-- Of nothing the first is chosen.
+chosen-empty : secondChosen [] [] ≡ false
+unfolding secondChosen daysOf colorsIn different distinct elem
+chosen-empty = refl
+
 -- ---- how long the part is
 
 module _ (first second : List ℕ) (m : ℕ) where
@@ -60,3 +66,10 @@ module _ (first second : List ℕ) (m : ℕ) where
   part-inside = by-test (ltb (length first) m)
       (λ t. simp t (omega arith, omega arith))
       (λ t. by-test (ltb (length second) m) (λ u. simp (t, u) (omega arith, omega arith)) (λ u. simp (t, u) (ltb-false (length first) m t, ltb-false (length second) m u)))
+
+  -- An empty part is of the first list.
+  pub part-empty : fewerDays first second m .length ≡ 0 → fewerDays first second m .second ≡ false
+  unfolding fewerDays
+  part-empty = by-test (ltb (length first) m)
+      (λ t. simp t (λ z. refl))
+      (λ t. by-test (ltb (length second) m) (λ u. simp (t, u) (λ z. refl)) (λ u. simp (t, u) (λ z. rw z chosen-empty)))

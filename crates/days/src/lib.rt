@@ -186,6 +186,9 @@ pub fn fewer_days<'a>(first: &'a [u16], second: &'a [u16], m: usize) -> &'a [u16
         × (r .ptr .1 ≡ cond (part .second) (second .entry .ptr .1) (first .entry .ptr .1)) ⌝ }
 {
     let part = fewer_days_part(first, second, m);
+    if part.length == 0 {
+        return &first[0..0];
+    }
     if part.second {
         return &second[..part.length];
     }

@@ -1,8 +1,11 @@
--- Incidence tables as rows, held against the definition by computation.
+-- Incidence tables and days as rows, held against the definitions by computation.
 use Prim.Native.Nat.{ℕ}
 use mathlib.Core.Bool.{Bool, true, _&&_}
 use mathlib.Core.List.{List, [], _∷_}
 use mathlib.Core.Path.{_≡_, refl}
+use lib.Dec.{eqb}
+use Rattle.lists.specs.Member.{elem}
+use Rattle.lists.specs.Different.{distinct, different}
 use Rattle.lists.specs.Equal.{equal}
 use Rattle.lists.specs.Search.{allBelow}
 use Rattle.lists.specs.Tabulate.{tabulate}
@@ -10,6 +13,7 @@ use Rattle.graph.specs.Report.{Report, accepted}
 use Rattle.graph.specs.Check.{firstRefusal, answered, written, graphChecks}
 use Rattle.graph.specs.Edges.{firstEnd, secondEnd, isLoop, secondAt, firstEdges, secondEdges, edgesAt}
 use Rattle.graph.specs.Table.{IncidenceOutcome, entriesBelow, startOf, startsBelow, incidenceChecks, incidenceOf}
+use Rattle.graph.specs.Color.{noColor, colorsIn, daysOf}
 use Rattle.graph.specs.Rows.{sameReport}
 
 -- A row: the outcome that the definition gives, and what is expected of its report and of both slices afterwards.
@@ -54,3 +58,27 @@ tables =
 pub examples : tablesHold tables ≡ true
 unfolding tablesHold tableHolds tables sameReport equal incidenceOf incidenceChecks graphChecks firstRefusal answered written allBelow startOf startsBelow tabulate entriesBelow edgesAt firstEdges secondEdges secondAt isLoop firstEnd secondEnd
 examples = refl
+
+-- A row: a list of colours, and its days.
+pub record DaysRow : Type 0 where
+  pub colors : List ℕ
+  pub days : ℕ
+
+unfoldable pub daysHold : List DaysRow → Bool
+daysHold [] = true
+daysHold (r ∷ rs) = eqb (daysOf (r .colors)) (r .days) && daysHold rs
+
+unfoldable pub days : List DaysRow
+days =
+    -- "A list with two matches, preset on days 9 and 0"; sees the greatest colour plus one
+    record { colors = 9 ∷ 0 ∷ []; days = 2 }
+    -- sees a colour counted twice
+    ∷ record { colors = 1 ∷ 4 ∷ 1 ∷ 1 ∷ []; days = 2 }
+    -- sees 65,535 counted
+    ∷ record { colors = noColor ∷ 3 ∷ noColor ∷ []; days = 1 }
+    ∷ record { colors = []; days = 0 }
+    ∷ []
+
+pub days-examples : daysHold days ≡ true
+unfolding daysHold days daysOf colorsIn different distinct elem
+days-examples = refl

@@ -1,32 +1,47 @@
 -- `fewer_days` meets its contract: the part is cut off the list that it is of.
-use mathlib.Core.Path.{sym}
+use mathlib.Core.Path.{sym, ap, _∙_}
+use native.Mathlib.Omega.{arith}
 use lib.Seq.{length-take-le}
 use borrow.Author.Needs.{needs}
-use Rattle.days.proofs.FewerDaysLaws.{part-inside}
+use Rattle.days.specs.declared.LeadingPart.{LeadingPart}
+use Rattle.days.proofs.FewerDaysLaws.{part-inside, part-empty}
 use Rattle.days.proofs.fewer_days.Statement.{statement}
 use Rattle.days.proofs.fewer_days.Tie as tie
+
+-- Nothing is left of either list: the part is of the first.
+returns : tie.Need-returns
+returns c =
+    let a = c .before .before .before .before .before .before .args in
+    let e = sym (c .before .before .before .fewer-days-part .ensures) in
+    let z = c .before .if1 .taken in
+    let of-first = part-empty (a .first .now) (a .second .now) (a .m) (ap (λ (p : LeadingPart). p .length) e ∙ z) in
+    (rw e (simp z), (simp of-first, simp of-first (omega arith)))
 
 -- The part stands in either list.
 slice-aggregate-result : tie.Need-slice-aggregate-result
 slice-aggregate-result c =
-    let a = c .before .before .before .before .before .args in
-    sym (length-take-le _ _ (rw (sym (c .before .before .fewer-days-part .ensures)) at (part-inside (a .first .now) (a .second .now) (a .m) .1)))
+    let a = c .before .before .before .before .before .before .before .args in
+    let inside = part-inside (a .first .now) (a .second .now) (a .m) in
+    sym (length-take-le _ _ (omega (arith, rw (sym (c .before .before .before .before .fewer-days-part .ensures)) at inside)))
 
 slice-aggregate-result-2 : tie.Need-slice-aggregate-result-2
 slice-aggregate-result-2 c =
-    let a = c .before .before .before .before .before .args in
-    sym (length-take-le _ _ (rw (sym (c .before .before .fewer-days-part .ensures)) at (part-inside (a .first .now) (a .second .now) (a .m) .0)))
-
-returns : tie.Need-returns
-returns c = let e = sym (c .before .before .fewer-days-part .ensures) in let t = c .before .if1 .taken in (rw e (simp t), (rw e (simp t), rw e (simp t)))
+    let a = c .before .before .before .before .before .before .before .args in
+    let inside = part-inside (a .first .now) (a .second .now) (a .m) in
+    sym (length-take-le _ _ (omega (arith, rw (sym (c .before .before .before .before .fewer-days-part .ensures)) at inside)))
 
 returns-2 : tie.Need-returns-2
-returns-2 c = let e = sym (c .before .before .fewer-days-part .ensures) in let t = c .before .if1 .left in (rw e (simp t), (rw e (simp t), rw e (simp t)))
+returns-2 c = let e = sym (c .before .before .before .before .fewer-days-part .ensures) in let t = c .before .if2 .taken in (rw e (simp t), (rw e (simp t), rw e (simp t)))
+
+returns-3 : tie.Need-returns-3
+returns-3 c = let e = sym (c .before .before .before .before .fewer-days-part .ensures) in let t = c .before .if2 .left in (rw e (simp t), (rw e (simp t), rw e (simp t)))
 
 pub fewer-days-spec : {M : Type 1} → statement M
 fewer-days-spec = tie.close (tie.spec
     (λ c κs. search needs)
-    slice-aggregate-result
+    (λ c. search needs) (λ c. search needs) (λ c. search needs)
     returns
+    slice-aggregate-result
+    returns-2
     slice-aggregate-result-2
-    returns-2)
+    returns-3)
