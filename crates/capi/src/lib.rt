@@ -231,12 +231,7 @@ pub extern "C" fn wg_write_graph_file(
 
 // Which of two lists has fewer days among its first m numbers: 0 for the first, 1 for the second. `*length` is m, or 0 if a list is shorter.
 #[no_mangle]
-pub extern "C" fn wg_fewer_days(
-    first: &[u16],
-    second: &[u16],
-    m: usize,
-    length: &mut usize,
-) -> u32
+pub extern "C" fn wg_fewer_days(first: &[u16], second: &[u16], m: usize, length: &mut usize) -> u32
     ensures list { λ r. let part = fewerDays (now (first .entry)) (now (second .entry)) m in ⌜ r ≡ cond (part .second) 1 0 ⌝ }
     ensures length { λ _. let part = fewerDays (now (first .entry)) (now (second .entry)) m in ⌜ now (length .exit) ≡ part .length ⌝ }
 {

@@ -59,10 +59,10 @@ module _ (lo hi : ℕ) where
   within-bound cs =
       let xs = within lo hi cs in
       let all = pigeonhole (distinct xs) (map (λ (i : ℕ). lo + i) (below (hi - lo))) (distinct-nodup xs)
-        (λ c p.
-        let r = within-member cs c (distinct-member xs c p) in
-        let e : lo + (c - lo) ≡ c = omega (arith, r .1) in
-        rw e at (mem-map (λ (i : ℕ). lo + i) (c - lo) (below (hi - lo)) (mem-below (hi - lo) (c - lo) (omega (arith, r .1, r .2))))) in
+      (λ c p.
+      let r = within-member cs c (distinct-member xs c p) in
+      let e : lo + (c - lo) ≡ c = omega (arith, r .1) in
+      rw e at (mem-map (λ (i : ℕ). lo + i) (c - lo) (below (hi - lo)) (mem-below (hi - lo) (c - lo) (omega (arith, r .1, r .2))))) in
       simp (length-map, length-below) at all
 
   -- What a list has beside another adds no less.

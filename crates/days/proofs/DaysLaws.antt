@@ -44,9 +44,11 @@ pub days-once : (cs ds : List ℕ) → Nodup ds → ((c : ℕ) → Mem c ds → 
 unfolding daysOf different
 days-once cs ds u from to =
     let colors = colorsIn cs in
-    omega (arith,
-    pigeonhole (distinct colors) ds (distinct-nodup colors) (λ c p. let r = color-member cs c (distinct-member colors c p) in to c (r .0) (r .1)),
-    pigeonhole ds (distinct colors) u (λ c p. let r = from c p in member-distinct colors c (member-color cs c (r .0) (r .1))))
+    omega (
+      arith,
+      pigeonhole (distinct colors) ds (distinct-nodup colors) (λ c p. let r = color-member cs c (distinct-member colors c p) in to c (r .0) (r .1)),
+      pigeonhole ds (distinct colors) u (λ c p. let r = from c p in member-distinct colors c (member-color cs c (r .0) (r .1))),
+    )
 
 -- Which colours there are decides the days.
 pub days-same : (cs ds : List ℕ) → ((c : ℕ) → c ≢ noColor → Mem c cs → Mem c ds) → ((c : ℕ) → c ≢ noColor → Mem c ds → Mem c cs) → daysOf cs ≡ daysOf ds

@@ -167,13 +167,22 @@ pub fn fewer_days_part(first: &[u16], second: &[u16], m: usize) -> LeadingPart
     ensures answer { λ r. ⌜ r ≡ fewerDays (now (first .entry)) (now (second .entry)) m ⌝ }
 {
     if first.len() < m {
-        return LeadingPart { second: false, length: 0 };
+        return LeadingPart {
+            second: false,
+            length: 0,
+        };
     }
     if second.len() < m {
-        return LeadingPart { second: false, length: 0 };
+        return LeadingPart {
+            second: false,
+            length: 0,
+        };
     }
-    let second = second_chosen(&first[..m], &second[..m]);
-    LeadingPart { second: second, length: m }
+    let chosen = second_chosen(&first[..m], &second[..m]);
+    LeadingPart {
+        second: chosen,
+        length: m,
+    }
 }
 
 // The same as a part of the list itself, which starts where the list starts.

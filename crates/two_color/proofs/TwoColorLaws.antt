@@ -86,10 +86,10 @@ module _ (n : ℕ) (ends : List ℕ) (p : Passed n ends) (fine : oddCycle ends (
   sides-days = by-test (ltb 0 m)
       (λ t. simp t (sym (days-gapless (sides ends m n) 2 (omega arith) (λ c q o. let r = member-side c q in omega (arith, r .2, side-color-bound ends m (r .0))) (both-sides (ltb-true 0 m t)))))
       (λ t. by-test (ltb 0 n)
-        (λ u. simp (t, u) (sym (days-once (sides ends m n) (1 ∷ []) (λ q. q, tt)
-          (λ c q. elim q [ inl e ↦ (rw (e, sym (bare t 0)) (side-member 0 (ltb-true 0 n u)), λ z. omega arith) | inr x ↦ absurd x ])
-          (λ c q o. let r = member-side c q in inl (sym (r .2) ∙ bare t (r .0))))))
-        (λ u. simp (t, u) (sym (days-none (sides ends m n) (λ c q. absurd (let r = member-side c q in omega (arith, r .1, ltb-false 0 n u)))))))
+      (λ u. simp (t, u) (sym (days-once (sides ends m n) (1 ∷ []) (λ q. q, tt)
+      (λ c q. elim q [ inl e ↦ (rw (e, sym (bare t 0)) (side-member 0 (ltb-true 0 n u)), λ z. omega arith) | inr x ↦ absurd x ])
+      (λ c q o. let r = member-side c q in inl (sym (r .2) ∙ bare t (r .0))))))
+      (λ u. simp (t, u) (sym (days-none (sides ends m n) (λ c q. absurd (let r = member-side c q in omega (arith, r .1, ltb-false 0 n u)))))))
 
 -- What copying out asks: as many places, and colours that fit a byte.
 pub sides-fit : (n : ℕ) (ends s : List ℕ) (m : ℕ) → s ≡ sides ends m n → (length s ≡ n) × ((i : ℕ) → i < length s → getD s i 0 ≤ 1)
