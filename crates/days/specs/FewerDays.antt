@@ -1,10 +1,12 @@
 -- The thriftier of two colour lists: the page grid's choice (02, Point 4).
-use Prim.Native.Nat.{ℕ}
+use Prim.Native.Nat.{ℕ, _≤_}
+use mathlib.Core.Path.{_≡_}
+use mathlib.Core.Logic.{_⊎_}
 use mathlib.Core.List.{List}
 use mathlib.Core.Bool.{Bool, false, not, _&&_, _||_, cond}
 use lib.ListN.{length, take}
 use lib.Dec.{ltb}
-use Rattle.lists.specs.Member.{elem}
+use Rattle.lists.specs.Member.{Mem, elem}
 use Rattle.graph.specs.Color.{noColor, daysOf}
 use Rattle.days.specs.declared.LeadingPart.{LeadingPart}
 
@@ -19,3 +21,16 @@ fewerDays first second m =
     cond (ltb (length first) m || ltb (length second) m)
     (record { second = false; length = 0 })
     (record { second = secondChosen (take m first) (take m second); length = m })
+
+-- All places of a list have a colour.
+abbrev pub AllColored : List ℕ → Type 0
+AllColored cs = Mem noColor cs → ⊥
+
+-- What the page grid gets, of two lists that have m numbers.
+pub record FewestDays (first second : List ℕ) (m : ℕ) (handed : List ℕ) : Type 0 where
+  -- The first m of one of them are handed back,
+  pub leading : m ≤ length first → m ≤ length second → (handed ≡ take m first) ⊎ (handed ≡ take m second)
+  -- with no more days than either has among them, if all places there have a colour;
+  pub fewest : m ≤ length first → m ≤ length second → AllColored (take m first) → AllColored (take m second) → (daysOf handed ≤ daysOf (take m first)) × (daysOf handed ≤ daysOf (take m second))
+  -- and if this is so of one list at least, all places of those handed back have a colour.
+  pub colored : m ≤ length first → m ≤ length second → AllColored (take m first) ⊎ AllColored (take m second) → AllColored handed

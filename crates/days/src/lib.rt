@@ -7,7 +7,7 @@ ghost use lib.ListN.{length, getD, take};
 ghost use Rattle.lists.specs.Member.{Mem, elem};
 ghost use Rattle.lists.specs.Different.{different};
 ghost use Rattle.graph.specs.Color.{daysOf, noColor};
-ghost use Rattle.days.specs.FewerDays.{secondChosen, fewerDays};
+ghost use Rattle.days.specs.FewerDays.{secondChosen, fewerDays, FewestDays};
 ghost use Rattle.days.specs.Within.{within};
 use graph::Color;
 
@@ -193,6 +193,7 @@ pub fn fewer_days<'a>(first: &'a [u16], second: &'a [u16], m: usize) -> &'a [u16
     ensures place { λ r. let part = fewerDays (now (first .entry)) (now (second .entry)) m in
         ⌜ (r .ptr .0 ≡ cond (part .second) (second .entry .ptr .0) (first .entry .ptr .0))
         × (r .ptr .1 ≡ cond (part .second) (second .entry .ptr .1) (first .entry .ptr .1)) ⌝ }
+    ensures fewest { λ r. ⌜ FewestDays (now (first .entry)) (now (second .entry)) m (now r) ⌝ }
 {
     let part = fewer_days_part(first, second, m);
     if part.length == 0 {

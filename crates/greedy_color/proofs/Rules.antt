@@ -1,11 +1,20 @@
 -- Each strategy's colours are greedy; and the call's answers, taken apart.
-use Prim.Native.Nat.{ℕ, _≤_}
-use mathlib.Core.List.{List, []}
+use Prim.Native.Nat.{ℕ, suc, _≤_, _<_}
+use mathlib.Core.List.{List, [], map}
+use mathlib.Core.Logic.{_≢_, inl, inr}
 use mathlib.Core.Path.{_≡_, sym, ap, subst, _∙_}
-use lib.ListN.{length, take, replicate, length-replicate}
+use native.Mathlib.Omega.{arith}
+use lib.ListN.{length, length-map, take, replicate, length-replicate}
 use lib.Seq.{length-take-le}
+use Rattle.lists.specs.Member.{Mem}
+use Rattle.lists.proofs.Tests.{dec-eq}
+use Rattle.lists.proofs.MemberLaws.{mem-getD, place-of, mem-map, cover-bound}
 use Rattle.graph.specs.Report.{Report, Accepted}
-use Rattle.graph.specs.Color.{noColor}
+use Rattle.graph.specs.Color.{noColor, daysOf}
+use Rattle.graph.specs.Colored.{colorOf}
+use Rattle.graph.proofs.ColorLaws.{color-read}
+use Rattle.days.proofs.DaysLaws.{days-gapless}
+use Rattle.greedy.specs.Greedy.{Neighborhood, Greedy}
 use Rattle.graph.specs.Edges.{edgeCount}
 use Rattle.graph.specs.Check.{Passed}
 use Rattle.greedy.specs.Degree.{degreeOrder, degreeColors}
@@ -23,6 +32,30 @@ degree-greedy nb n hood presets l = in-order-greedy nb n hood presets (degreeOrd
 
 pub independent-set-rule : GreedyRule independentSetColors
 independent-set-rule nb n hood presets l = independent-set-greedy nb n presets hood l
+
+-- Without presets the colours have no gap: the days are the greatest colour plus one.
+pub greedy-days : (nb : ℕ → List ℕ) (n : ℕ) (presets colors : List ℕ) → Neighborhood nb n → Greedy nb n presets colors → ((v : ℕ) → v < n → colorOf presets v ≡ noColor)
+    → (v : ℕ) → v < n → ((w : ℕ) → w < n → colorOf colors w ≤ colorOf colors v) → daysOf colors ≡ suc (colorOf colors v)
+greedy-days nb n presets colors hood g bare v h greatest = days-gapless colors (suc (colorOf colors v)) small below all
+  where
+    stands : (w : ℕ) → w < n → Mem (colorOf colors w) colors
+    stands w k = let i : w < length colors = omega (arith, g .size) in rw (color-read colors w 0 i) at (mem-getD colors w 0 i)
+
+    small : suc (colorOf colors v) ≤ noColor
+    small =
+        let cover = cover-bound (colorOf colors v) (map (colorOf colors) (nb v)) (λ c k. let r = g .supported v h (bare v h) c k in rw (r .3) at (mem-map (colorOf colors) (r .0) (nb v) (r .1))) in
+        omega (arith, cover, length-map (nb v) (colorOf colors), hood .few v h)
+
+    below : (c : ℕ) → Mem c colors → c ≢ noColor → c < suc (colorOf colors v)
+    below c p n =
+        let r = place-of c colors 0 p in
+        omega (arith, r .2, color-read colors (r .0) 0 (r .1), greatest (r .0) (omega (arith, r .1, g .size)))
+
+    all : (c : ℕ) → c < suc (colorOf colors v) → Mem c colors
+    all c k = elim (dec-eq c (colorOf colors v)) [
+      | inl e ↦ rw e (stands v h)
+      | inr d ↦ let r = g .supported v h (bare v h) c (omega arith) in rw (r .3) at (stands (r .0) (hood .inside v (r .0) h (r .1)))
+    ]
 
 -- ---- a call with presets
 
