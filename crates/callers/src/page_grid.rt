@@ -3,11 +3,13 @@ ghost use mathlib.Core.Path.{_≡_};
 ghost use mathlib.Core.List.{[]};
 ghost use Rattle.graph.specs.Report.{reportOfColoring};
 ghost use Rattle.graph.specs.Edges.{edgeCount};
+ghost use Rattle.days.specs.FewerDays.{FewestDays};
 ghost use Rattle.greedy.specs.Degree.{degreeColors};
 ghost use Rattle.greedy.specs.Call.{ruleOf, greedyNodes, greedyNodesPlain, greedyEdges, greedyEdgesPlain};
 ghost use Rattle.callers.specs.Reliance.{AdjacentNodesDiffer, AdjacentEdgesDiffer, Lent, LentBoth};
 use wulgranite::Coloring;
 use wulgranite::ColoringStrategy;
+use wulgranite::fewer_days;
 use wulgranite::greedy_edge_color;
 use wulgranite::greedy_edge_color_with_coloring_strategy;
 use wulgranite::greedy_node_color;
@@ -67,4 +69,11 @@ pub fn adjacent_edges_differ_unless_preset(
         ⌜ AdjacentEdgesDiffer n ends presets (LentBoth (edgeCount ends) presets colors₀) (reportOfColoring r) (now (colors .exit)) ⌝ }
 {
     greedy_edge_color_with_coloring_strategy(n, ends, presets, strategy, colors)
+}
+
+// Of two lists of boxes' pages the one that takes fewer.
+pub fn fewest_pages<'a>(first: &'a [u16], second: &'a [u16], m: usize) -> &'a [u16]
+    ensures relied { λ r. ⌜ FewestDays (now (first .entry)) (now (second .entry)) m (now r) ⌝ }
+{
+    fewer_days(first, second, m)
 }

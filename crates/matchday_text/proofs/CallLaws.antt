@@ -10,10 +10,12 @@ use lib.ListN.{length, take, replicate, length-append}
 use borrow.Author.Tests.{ltb-true}
 use mathlib.Core.Bool.{true}
 use native.Mathlib.Decide.{decLt}
+use Rattle.lists.specs.Member.{elem}
+use Rattle.lists.specs.Different.{distinct, different}
 use Rattle.graph.specs.Check.{firstRefusal, graphChecks, numbersPass}
 use Rattle.graph.proofs.CheckLaws.{refusal-passes, answered-accepted, answered-refused, passed, refused-first}
 use Rattle.graph.specs.Edges.{edgeCount, firstEnd, secondEnd}
-use Rattle.graph.specs.Color.{colored, daysOf, noColor, Outcome}
+use Rattle.graph.specs.Color.{colored, colorsIn, daysOf, noColor, Outcome}
 use Rattle.days.proofs.DaysLaws.{days-at-most}
 use Rattle.graph.specs.Colored.{colorOf}
 use Rattle.vizing.specs.MisraGries.{misraGries, misraGriesChecks, held}
@@ -328,7 +330,7 @@ graph-done n ends m before after end h p q =
 -- ---- the texts of the examples are those printed there
 
 example-colored : coloredText 4 listP13 ≡ exampleText
-unfolding coloredText daysOf
+unfolding coloredText daysOf colorsIn different distinct elem
 example-colored =
     accepts 4 listP13 (replicate 4 noColor) (checks-pass 4 listP13 (replicate 4 noColor) p13-admitted refl)
     ∙ ap (daysText _ listP13) p13-colors
