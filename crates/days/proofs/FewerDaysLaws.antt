@@ -98,12 +98,13 @@ chosen-cases first second P chosen left = by-test (secondChosen first second) (�
 chosen-second : (first second : List ℕ) → secondChosen first second ≡ true → AllColored second × (AllColored first → daysOf second ≤ daysOf first)
 unfolding secondChosen
 chosen-second first second t =
-    let r = and-true (not (elem noColor second)) (elem noColor first || ltb (daysOf second) (daysOf first)) t in
-    (elem-false noColor second (not-true (elem noColor second) (r .0)),
-    λ colored. elim (or-true (elem noColor first) (ltb (daysOf second) (daysOf first)) (r .1)) [
-      | inl e ↦ absurd (colored (elem-true noColor first e))
-      | inr e ↦ omega (arith, ltb-true (daysOf second) (daysOf first) e)
-    ])
+    let r = and-true (not (elem noColor second)) (elem noColor first || ltb (daysOf second) (daysOf first)) t in (
+      elem-false noColor second (not-true (elem noColor second) (r .0)),
+      λ colored. elim (or-true (elem noColor first) (ltb (daysOf second) (daysOf first)) (r .1)) [
+        | inl e ↦ absurd (colored (elem-true noColor first e))
+        | inr e ↦ omega (arith, ltb-true (daysOf second) (daysOf first) e)
+      ],
+    )
 
 -- The first is chosen where it has no more days, or the second has a place without a colour.
 chosen-first : (first second : List ℕ) → secondChosen first second ≡ false → AllColored second → AllColored first × (daysOf first ≤ daysOf second)
