@@ -3,10 +3,12 @@
  * C99 or later, and C++.
  *
  * A graph is a node count n and a list of ends: edge k joins the nodes ends[2k] and ends[2k + 1]; ends_len counts numbers, not edges.
+ * A colour is a day, 0 to 65534. What a colouring reports as *days is how many different colours its answer has; 0 where it has none.
  *
- * Every call returns WG_ACCEPTED (0) or the number of the first check that refuses, in the order in which they are given below. Where
- * a call refuses, nothing is changed: no lent list, and no number behind a pointer. No call keeps a pointer, allocates, prints or
- * fails in another way; a call may use up to about 1 MB of stack. Calls may run at the same time on different memory.
+ * Every call returns WG_ACCEPTED (0) or the number of the first check that refuses, in the order in which they are given below, save
+ * wg_fewer_days, which refuses nothing. Where a call refuses, nothing is changed: no lent list, and no number behind a pointer. No
+ * call keeps a pointer, allocates, prints or fails in another way; a call may use up to about 1 MB of stack. Calls may run at the same
+ * time on different memory.
  *
  * What a caller keeps:
  *  - A list is a pointer and a count of elements: the pointer is aligned for its type, and that many elements can be read there (and
@@ -32,7 +34,7 @@ enum {
     WG_NONE = 65535 /* in a list of presets or of colours: none */
 };
 
-/* What a call returns. */
+/* What a call returns, save wg_fewer_days. */
 enum {
     WG_ACCEPTED = 0,
     WG_TOO_MANY_NODES = 1,     /* n is above WG_MAX_NODES */
@@ -54,6 +56,12 @@ enum {
     WG_DEGREE = 0,
     WG_SATURATION = 1,
     WG_INDEPENDENT_SET = 2
+};
+
+/* What wg_fewer_days returns: one of its two lists. */
+enum {
+    WG_FIRST = 0,
+    WG_SECOND = 1
 };
 
 /* The fields of a graph file: bit t - 1 for tag t. */
@@ -83,8 +91,8 @@ uint32_t wg_incidence(size_t n, const uint16_t *ends, size_t ends_len, uint16_t 
                       uint16_t *entries, size_t entries_len, size_t *total);
 
 /*
- * Two colours for the nodes: the lowest node of each component gets 1, neighbours the other of 0 and 1. *days is the greatest colour
- * plus one, or 0 where there is no node.
+ * Two colours for the nodes: the lowest node of each component gets 1, neighbours the other of 0 and 1. *days is 2 where there is an
+ * edge; without edges all nodes have the colour 1, and *days is 1, or 0 where there is no node.
  * Refuses by 1, 2, 3, 4; 5 unless colors_len is n; 8 where there is a closed walk of odd length, and only there.
  * On a refusal colors and *days are unchanged.
  */
@@ -92,7 +100,7 @@ uint32_t wg_two_color(size_t n, const uint16_t *ends, size_t ends_len, uint8_t *
 
 /*
  * Colours for the nodes so that neighbours differ: nodes with more edges first, each the smallest colour that no coloured neighbour
- * has. *days is the greatest colour plus one, or 0 where there is no node.
+ * has. They are the colours below *days, none left out.
  * Refuses by 1, 2, 3, 4; 5 unless colors_len is n.
  * On a refusal colors and *days are unchanged.
  */
@@ -100,6 +108,7 @@ uint32_t wg_greedy_node_color(size_t n, const uint16_t *ends, size_t ends_len, u
 
 /*
  * The same around presets, a number for each node: its colour, which stays, or WG_NONE. Two equal presets side by side stay too.
+ * Presets may leave out colours: the days 9 and 0 are two.
  * Refuses by 1, 2, 3, 4; 5 unless presets_len and colors_len are n.
  * On a refusal colors and *days are unchanged.
  */
@@ -107,7 +116,7 @@ uint32_t wg_greedy_node_color_with_preset_colors(size_t n, const uint16_t *ends,
                       const uint16_t *presets, size_t presets_len, uint16_t *colors, size_t colors_len, size_t *days);
 
 /*
- * The same by a strategy: WG_DEGREE, WG_SATURATION or WG_INDEPENDENT_SET.
+ * The same by a strategy: WG_DEGREE, WG_SATURATION or WG_INDEPENDENT_SET. Without presets none of them leaves out a colour below *days.
  * Refuses by 1, 2, 3, 4; 5 unless presets_len and colors_len are n; 255 where strategy is another number.
  * On a refusal colors and *days are unchanged.
  */
@@ -115,15 +124,15 @@ uint32_t wg_greedy_node_color_with_coloring_strategy(size_t n, const uint16_t *e
                       const uint16_t *presets, size_t presets_len, uint8_t strategy, uint16_t *colors, size_t colors_len, size_t *days);
 
 /*
- * Colours for the edges so that edges that share an end differ, chosen as wg_greedy_node_color does. *days is the greatest colour plus
- * one, or 0 where there is no edge.
+ * Colours for the edges so that edges that share an end differ, chosen as wg_greedy_node_color does: the colours below *days, none
+ * left out.
  * Refuses by 1, 2, 3, 4; 5 unless colors_len is the number of edges.
  * On a refusal colors and *days are unchanged.
  */
 uint32_t wg_greedy_edge_color(size_t n, const uint16_t *ends, size_t ends_len, uint16_t *colors, size_t colors_len, size_t *days);
 
 /*
- * The same around presets, a number for each edge, and by a strategy.
+ * The same around presets, a number for each edge, which may leave out colours, and by a strategy.
  * Refuses by 1, 2, 3, 4; 5 unless presets_len and colors_len are the number of edges; 255 where strategy is another number.
  * On a refusal colors and *days are unchanged.
  */
@@ -140,7 +149,7 @@ uint32_t wg_line_graph(size_t n, const uint16_t *ends, size_t ends_len, uint16_t
 
 /*
  * Colours for the edges by Misra and Gries: where D is the most edges that a node has, each edge gets a colour from 0 to D, and edges
- * that share an end differ. *days is the greatest colour plus one, or 0 where there is no edge.
+ * that share an end differ. They are the colours below *days, none left out.
  * Refuses by 1, 2, 3, 4; 5 unless colors_len is the number of edges; 6 a loop; 7 a double edge.
  * On a refusal colors and *days are unchanged.
  */
@@ -150,8 +159,9 @@ uint32_t wg_misra_gries_edge_color(size_t n, const uint16_t *ends, size_t ends_l
  * The last edge gets a colour too, by the step that it has in wg_misra_gries_edge_color, from the colours that are stored for the
  * others: stored[k] is that of edge k. colors gets a colour for each edge, from 0 to D, where D is the most edges that a node has with
  * the last one counted, and edges that share an end differ. The step may change the colours of the others, as it does in the whole
- * run. Colours that wg_misra_gries_edge_color gives the others become those that it gives all edges. *days is the greatest colour
- * plus one, or 0 where there is no edge: then stored and colors are empty. It takes about as much stack as the whole run.
+ * run. Colours that wg_misra_gries_edge_color gives the others become those that it gives all edges; other stored colours may leave
+ * some out, and then the answer may, too. Where there is no edge, stored and colors are empty. It takes about as much stack as the
+ * whole run.
  * Refuses by 1, 2, 3, 4; 5 unless stored_len is one less than the number of edges, or 0 where there is none, and colors_len is the
  * number of edges; 6 a loop; 7 a double edge; 11 where a stored colour is above D, as WG_NONE always is, or two edges that share an end
  * have the same one.
@@ -159,6 +169,14 @@ uint32_t wg_misra_gries_edge_color(size_t n, const uint16_t *ends, size_t ends_l
  */
 uint32_t wg_misra_gries_add_edge(size_t n, const uint16_t *ends, size_t ends_len, const uint16_t *stored, size_t stored_len,
                       uint16_t *colors, size_t colors_len, size_t *days);
+
+/*
+ * The thriftier of two lists of colours: WG_FIRST or WG_SECOND, whichever has fewer different ones among its first m numbers, the first
+ * list where they have equally many. A list with WG_NONE among those m loses to one without; if both have it, the first is the answer.
+ * *length is m: so many numbers at the front of that list. If m is above either length, it is 0, at the front of the first list.
+ * Nothing is refused: the lists may have any numbers and any length, above WG_MAX_EDGES too, and may be the same one.
+ */
+uint32_t wg_fewer_days(const uint16_t *first, size_t first_len, const uint16_t *second, size_t second_len, size_t m, size_t *length);
 
 /*
  * Reads a graph file: *nodes and *edges are its counts, bit t - 1 of *tags is set where tag t stood, and *method is tag 4's byte, or

@@ -93,6 +93,14 @@ extern "C" {
         colors_len: usize,
         days: *mut usize,
     ) -> u32;
+    pub fn wg_fewer_days(
+        first: *const u16,
+        first_len: usize,
+        second: *const u16,
+        second_len: usize,
+        m: usize,
+        length: *mut usize,
+    ) -> u32;
     pub fn wg_read_graph_file(
         bytes: *const u8,
         bytes_len: usize,

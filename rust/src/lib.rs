@@ -2,7 +2,8 @@
 //!
 //! A graph is a node count `n`, at most [`MAX_NODES`], and a list of ends: edge k joins `ends[2 * k]` and
 //! `ends[2 * k + 1]`. A graph has at most [`MAX_EDGES`] edges. Colours are written into a slice that the caller lends;
-//! where a call refuses, the slice is as it was, and the refusal says why.
+//! where a call refuses, the slice is as it was, and the refusal says why. A colouring that is accepted answers how many
+//! days it takes: how many different colours it has.
 //!
 //! ```
 //! // Four clubs, four matches: 0 against 1, 1 against 2, 0 against 2, 2 against 3.
@@ -157,13 +158,15 @@ pub fn incidence(
 }
 
 /// Gives each node 0 or 1 so that neighbours differ, or refuses by [`Refusal::OddClosedWalk`] where that can't be done.
-/// The lowest node of each component gets 1. The answer is the number of days.
+/// The lowest node of each component gets 1. There are 2 days, or 1 if there is no edge, or 0 if there is no node.
 ///
 /// ```
 /// use wulgranite::{two_color, Refusal};
 /// let mut colors = [0; 3];
 /// assert_eq!(two_color(3, &[1, 2], &mut colors), Ok(2));
 /// assert_eq!(colors, [1, 1, 0]);
+/// assert_eq!(two_color(3, &[], &mut colors), Ok(1));
+/// assert_eq!(colors, [1, 1, 1]);
 /// assert_eq!(two_color(3, &[0, 1, 1, 2, 0, 2], &mut colors), Err(Refusal::OddClosedWalk));
 /// ```
 pub fn two_color(n: usize, ends: &[u16], colors: &mut [u8]) -> Result<usize, Refusal> {
@@ -182,7 +185,7 @@ pub fn two_color(n: usize, ends: &[u16], colors: &mut [u8]) -> Result<usize, Ref
     answer(number, days)
 }
 
-/// Colours the nodes by [`ColoringStrategy::Degree`]; neighbours differ.
+/// Colours the nodes by [`ColoringStrategy::Degree`]; neighbours differ. No colour below the number of days is left out.
 ///
 /// ```
 /// let mut colors = [0; 3];
@@ -205,14 +208,14 @@ pub fn greedy_node_color(n: usize, ends: &[u16], colors: &mut [u16]) -> Result<u
     answer(number, days)
 }
 
-/// The same with presets, which stay: a preset of [`NONE`] is none.
+/// The same with presets, which stay: a preset of [`NONE`] is none. They may leave out colours, which are no days then.
 ///
 /// ```
 /// use wulgranite::NONE;
 /// let mut colors = [0; 3];
-/// let presets = [1, NONE, NONE];
+/// let presets = [9, NONE, NONE];
 /// assert_eq!(wulgranite::greedy_node_color_with_preset_colors(3, &[0, 1, 0, 2], &presets, &mut colors), Ok(2));
-/// assert_eq!(colors, [1, 0, 0]);
+/// assert_eq!(colors, [9, 0, 0]);
 /// ```
 pub fn greedy_node_color_with_preset_colors(
     n: usize,
@@ -237,7 +240,7 @@ pub fn greedy_node_color_with_preset_colors(
     answer(number, days)
 }
 
-/// The same by any strategy.
+/// The same by any strategy. Without presets none leaves out a colour below the number of days.
 ///
 /// ```
 /// use wulgranite::{ColoringStrategy, NONE};
@@ -275,7 +278,8 @@ pub fn greedy_node_color_with_coloring_strategy(
     answer(number, days)
 }
 
-/// Colours the edges by [`ColoringStrategy::Degree`]; edges that share an end differ.
+/// Colours the edges by [`ColoringStrategy::Degree`]; edges that share an end differ. No colour below the number of days is
+/// left out.
 ///
 /// ```
 /// let mut colors = [0; 4];
@@ -298,7 +302,7 @@ pub fn greedy_edge_color(n: usize, ends: &[u16], colors: &mut [u16]) -> Result<u
     answer(number, days)
 }
 
-/// The same by any strategy, with presets, which stay.
+/// The same by any strategy, with presets, which stay and may leave out colours.
 ///
 /// ```
 /// use wulgranite::{ColoringStrategy, NONE};
@@ -360,7 +364,7 @@ pub fn line_graph(n: usize, ends: &[u16], list: &mut [u16]) -> Result<usize, Ref
 }
 
 /// Colours the edges by Misra and Gries: with D the most edges at a node, colours are 0 to D, and edges that share an end
-/// differ. Of graphs without loops and double edges none is refused.
+/// differ. No colour below the number of days is left out. Of graphs without loops and double edges none is refused.
 ///
 /// ```
 /// let mut days = [0; 4];
@@ -390,8 +394,9 @@ pub fn misra_gries_edge_color(
 /// Colours the last edge too, by the step that it has in [`misra_gries_edge_color`], from the stored colours of the others,
 /// which the step may change, as it does in the whole run. With D the most edges at a node, the last one counted, colours
 /// are 0 to D, and edges that share an end differ. Colours that [`misra_gries_edge_color`] gives the others become those that
-/// it gives all edges. Refuses by [`Refusal::BadStoredColors`] where a stored colour is above D, or two edges that share an
-/// end have the same one. Without edges nothing is stored.
+/// it gives all edges; other stored colours may leave some out, and then the answer may, too. Refuses by
+/// [`Refusal::BadStoredColors`] where a stored colour is above D, or two edges that share an end have the same one. Without
+/// edges nothing is stored.
 ///
 /// ```
 /// use wulgranite::{misra_gries_add_edge, misra_gries_edge_color, Refusal};
@@ -430,6 +435,39 @@ pub fn misra_gries_add_edge(
         )
     };
     answer(number, days)
+}
+
+/// The thriftier of two lists of colours: the first `m` numbers of whichever has fewer days among them, of the first list
+/// where they have equally many. A list with [`NONE`] among those `m` loses to one without it; if both have it, the first
+/// is handed back. Where `m` is above either length, the part handed back is empty, at the front of the first list. The
+/// lists may have any length.
+///
+/// ```
+/// use wulgranite::{fewer_days, NONE};
+/// // Matches on days 9 and 0 take two days, those on days 0, 1 and 2 take three.
+/// assert_eq!(fewer_days(&[0, 1, 2], &[9, 0, 9], 3), [9, 0, 9]);
+/// assert_eq!(fewer_days(&[0, 1, 2], &[9, 0, 8], 3), [0, 1, 2]);
+/// // A match without a day is worse than one more day.
+/// assert_eq!(fewer_days(&[4, NONE], &[0, 1], 2), [0, 1]);
+/// assert_eq!(fewer_days(&[4, NONE], &[0, 1], 3), []);
+/// ```
+pub fn fewer_days<'a>(first: &'a [u16], second: &'a [u16], m: usize) -> &'a [u16] {
+    let mut length = 0;
+    // SAFETY: as above.
+    let list = unsafe {
+        ffi::wg_fewer_days(
+            first.as_ptr(),
+            first.len(),
+            second.as_ptr(),
+            second.len(),
+            m,
+            &mut length,
+        )
+    };
+    match list {
+        0 => &first[..length],
+        _ => &second[..length],
+    }
 }
 
 /// The bits of tags 3 and 4, and what stands for the method where none is named.

@@ -1,8 +1,21 @@
 //! Every call, accepted and refused; a refused call leaves its slices as they were.
 
+use std::collections::HashSet;
 use wulgranite::*;
 
 const TAIL: [u16; 8] = [0, 1, 1, 2, 0, 2, 2, 3];
+
+const STRATEGIES: [ColoringStrategy; 3] = [
+    ColoringStrategy::Degree,
+    ColoringStrategy::Saturation,
+    ColoringStrategy::IndependentSet,
+];
+
+/// How many different colours there are.
+fn different(colors: &[u16]) -> usize {
+    let days: HashSet<&u16> = colors.iter().filter(|&&color| color != NONE).collect();
+    days.len()
+}
 
 #[test]
 fn incidence_table() {
@@ -58,7 +71,17 @@ fn two_colors() {
         Err(Refusal::OddClosedWalk)
     );
     assert_eq!(colors, [1, 0, 1, 0, 1]);
+    // Without edges one day, and that is 1; without nodes none.
+    assert_eq!(two_color(3, &[], &mut colors[..3]), Ok(1));
+    assert_eq!(colors, [1, 1, 1, 0, 1]);
+    assert_eq!(two_color(1, &[], &mut colors[4..]), Ok(1));
     assert_eq!(two_color(0, &[], &mut []), Ok(0));
+    // One edge among many nodes.
+    let mut many = [5; 512];
+    assert_eq!(two_color(512, &[], &mut many), Ok(1));
+    assert_eq!(many, [1; 512]);
+    assert_eq!(two_color(512, &[511, 0], &mut many), Ok(2));
+    assert_eq!((many[0], many[510], many[511]), (1, 1, 0));
 }
 
 #[test]
@@ -76,7 +99,7 @@ fn greedy_nodes() {
     }
     assert_eq!(
         greedy_node_color_with_preset_colors(2, &[0, 1], &[4, 4], &mut colors[..2]),
-        Ok(5)
+        Ok(1)
     );
     assert_eq!(colors[..2], [4, 4]);
     let short = greedy_node_color_with_preset_colors(2, &[0, 1], &[4], &mut colors[..2]);
@@ -89,15 +112,110 @@ fn greedy_edges() {
     assert_eq!(greedy_edge_color(4, &TAIL, &mut colors), Ok(3));
     assert_eq!(colors, [2, 0, 1, 2]);
     let presets = [9, NONE, NONE, NONE];
-    for strategy in [
-        ColoringStrategy::Degree,
-        ColoringStrategy::Saturation,
-        ColoringStrategy::IndependentSet,
-    ] {
+    for strategy in STRATEGIES {
         let answer =
             greedy_edge_color_with_coloring_strategy(4, &TAIL, &presets, strategy, &mut colors);
-        assert_eq!(answer, Ok(10));
+        // The others meet at node 2.
+        assert_eq!(answer, Ok(4));
         assert_eq!(colors[0], 9);
+    }
+}
+
+#[test]
+fn days_9_and_0_are_two() {
+    for strategy in STRATEGIES {
+        let mut colors = [7; 2];
+        let matches = &[0, 1, 1, 2];
+        let answer =
+            greedy_edge_color_with_coloring_strategy(3, matches, &[9, 0], strategy, &mut colors);
+        assert_eq!((answer, colors), (Ok(2), [9, 0]));
+        let answer = greedy_edge_color_with_coloring_strategy(
+            3,
+            matches,
+            &[65534, NONE],
+            strategy,
+            &mut colors,
+        );
+        assert_eq!((answer, colors), (Ok(2), [65534, 0]));
+        let answer =
+            greedy_node_color_with_coloring_strategy(2, &[0, 1], &[9, 0], strategy, &mut colors);
+        assert_eq!((answer, colors), (Ok(2), [9, 0]));
+        let answer =
+            greedy_node_color_with_coloring_strategy(2, &[0, 1], &[9, 9], strategy, &mut colors);
+        assert_eq!((answer, colors), (Ok(1), [9, 9]));
+        let answer = greedy_node_color_with_coloring_strategy(0, &[], &[], strategy, &mut []);
+        assert_eq!(answer, Ok(0));
+    }
+    let mut colors = [7; 2];
+    let answer = greedy_node_color_with_preset_colors(2, &[0, 1], &[9, 0], &mut colors);
+    assert_eq!((answer, colors), (Ok(2), [9, 0]));
+}
+
+/// Days are the different colours, whatever is preset; without presets no colour below them is left out.
+#[test]
+fn greedy_days() {
+    // Every third is preset: not at all, on a few days, on any, and around the numbers at which the counting changes.
+    const BORDERS: [u16; 8] = [0, 63, 64, 4095, 4096, 8192, 61440, 65534];
+    let presets: [fn(usize) -> u16; 4] = [
+        |_| NONE,
+        |i| (i * 7 % 64) as u16,
+        |i| (i * 7919 % 65535) as u16,
+        |i| BORDERS[i % 8],
+    ];
+    for (n, ends) in simple_lists() {
+        let m = ends.len() / 2;
+        for (kind, preset) in presets.iter().enumerate() {
+            let third = |i| if i % 3 == 0 { preset(i) } else { NONE };
+            let presets: Vec<u16> = (0..n.max(m)).map(third).collect();
+            for strategy in STRATEGIES {
+                let (mut nodes, mut edges) = (vec![7; n], vec![7; m]);
+                let answers = [
+                    greedy_node_color_with_coloring_strategy(
+                        n,
+                        &ends,
+                        &presets[..n],
+                        strategy,
+                        &mut nodes,
+                    ),
+                    greedy_edge_color_with_coloring_strategy(
+                        n,
+                        &ends,
+                        &presets[..m],
+                        strategy,
+                        &mut edges,
+                    ),
+                ];
+                for (answer, colors) in answers.iter().zip([nodes, edges]) {
+                    assert!(!colors.contains(&NONE));
+                    assert_eq!(*answer, Ok(different(&colors)));
+                    if kind == 0 {
+                        let greatest = colors.iter().max().unwrap();
+                        assert_eq!(*answer, Ok(usize::from(*greatest) + 1));
+                    }
+                }
+            }
+        }
+    }
+}
+
+/// As many days as there can be, all of them preset.
+#[test]
+fn every_match_its_own_day() {
+    let ends: Vec<u16> = (0..2 * MAX_EDGES).map(|k| (k % MAX_NODES) as u16).collect();
+    for step in [1, 16] {
+        let presets: Vec<u16> = (0..MAX_EDGES).map(|k| (k * step) as u16).collect();
+        for strategy in STRATEGIES {
+            let mut colors = vec![NONE; MAX_EDGES];
+            let answer = greedy_edge_color_with_coloring_strategy(
+                MAX_NODES,
+                &ends,
+                &presets,
+                strategy,
+                &mut colors,
+            );
+            assert_eq!(answer, Ok(MAX_EDGES));
+            assert_eq!(colors, presets);
+        }
     }
 }
 
@@ -138,6 +256,7 @@ fn no_club_twice_on_a_day() {
     let days = misra_gries_edge_color(91, &ends, &mut colors).unwrap();
     assert!(days <= 91);
     assert!(colors.iter().all(|&color| usize::from(color) < days));
+    assert_eq!(days, different(&colors));
     assert_proper(&ends, &colors);
 }
 
@@ -153,7 +272,7 @@ fn simple_lists() -> Vec<(usize, Vec<u16>)> {
     let star = (1..20).flat_map(|v| [v, 0]).collect();
     let bipartite = (0..64).flat_map(|k| [8 + k / 8, k % 8]).collect();
     let mut scattered = Vec::new();
-    let mut joined = std::collections::HashSet::new();
+    let mut joined = HashSet::new();
     let mut seed = 1u32;
     while joined.len() < 150 {
         seed = seed.wrapping_mul(1103515245).wrapping_add(12345);
@@ -181,7 +300,7 @@ fn most_edges(ends: &[u16]) -> usize {
 /// No club has two matches on a day, and no day is above D.
 fn assert_proper(ends: &[u16], colors: &[u16]) {
     let most = most_edges(ends);
-    let mut seen = std::collections::HashSet::new();
+    let mut seen = HashSet::new();
     assert_eq!(ends.len(), 2 * colors.len());
     for (edge, &color) in ends.chunks(2).zip(colors) {
         assert!(usize::from(color) <= most);
@@ -244,12 +363,15 @@ fn late_match_accepted() {
     let two = misra_gries_add_edge(4, &[0, 1, 2, 3], &[1], &mut colors[..2]);
     assert_eq!((two, colors), (Ok(2), [1, 0, 9, 9]));
     let three = misra_gries_add_edge(4, &[0, 1, 2, 3, 1, 2], &[2, 2], &mut colors[..3]);
-    assert_eq!((three, colors), (Ok(3), [2, 2, 0, 9]));
+    assert_eq!((three, colors), (Ok(2), [2, 2, 0, 9]));
     // The step changes a stored colour, whether it comes from the whole call or not.
     for (stored, days, expected) in [([0, 1, 2], 3, [2, 1, 0, 2]), ([3, 1, 0], 4, [3, 1, 2, 0])] {
         let answer = misra_gries_add_edge(4, &TAIL, &stored, &mut colors);
         assert_eq!((answer, colors), (Ok(days), expected));
     }
+    // Stored colours that leave out 2, and an answer that does.
+    let star = misra_gries_add_edge(4, &[0, 1, 0, 2, 0, 3], &[3, 1], &mut colors[..3]);
+    assert_eq!((star, &colors[..3]), (Ok(3), &[3, 1, 0][..]));
 }
 
 /// Stored colours that the whole call gives: the answer is the whole call's again.
@@ -259,11 +381,16 @@ fn late_match_afresh() {
         let mut stored = Vec::new();
         for m in 1..=ends.len() / 2 {
             let (mut late, mut whole) = (vec![9; m], vec![9; m]);
+            let answer = misra_gries_edge_color(n, &ends[..2 * m], &mut whole);
             assert_eq!(
                 misra_gries_add_edge(n, &ends[..2 * m], &stored, &mut late),
-                misra_gries_edge_color(n, &ends[..2 * m], &mut whole)
+                answer
             );
             assert_eq!(late, whole);
+            // No colour below the number of days is left out.
+            let greatest = whole.iter().max().unwrap();
+            assert_eq!(answer, Ok(usize::from(*greatest) + 1));
+            assert_eq!(answer, Ok(different(&whole)));
             stored = late;
         }
     }
@@ -288,8 +415,7 @@ fn late_match_elsewhere() {
                     assert_eq!(answer, Err(Refusal::BadStoredColors));
                     assert!(colors.iter().all(|&color| color == 9));
                 } else {
-                    let greatest = colors.iter().max().unwrap();
-                    assert_eq!(answer, Ok(usize::from(*greatest) + 1));
+                    assert_eq!(answer, Ok(different(&colors)));
                     assert_proper(list, &colors);
                 }
             }
@@ -311,6 +437,139 @@ fn one_match_after_the_other() {
     let mut whole = vec![0; ends.len() / 2];
     assert_eq!(misra_gries_edge_color(91, &ends, &mut whole), Ok(days));
     assert_eq!(stored, whole);
+}
+
+/// The front of one list, and not numbers that are equal to it.
+fn assert_front(part: &[u16], list: &[u16], length: usize) {
+    assert!(std::ptr::eq(part, &list[..length]));
+}
+
+#[test]
+fn thriftier_list() {
+    for (first, second, m, chosen) in [
+        // Two days against three, either way round,
+        (vec![9, 0, 9], vec![0, 1, 2], 3, 0),
+        (vec![0, 1, 2], vec![9, 0, 9], 3, 1),
+        // among the first m only.
+        (vec![0, 1, 0], vec![5, 5, 6, 7], 2, 1),
+        (vec![5, 5, 6, 7], vec![0, 1, 0], 2, 0),
+        // Equally many: the first, if it has the same numbers as the second, too.
+        (vec![0, 1], vec![7, 9], 2, 0),
+        (vec![65534, 3, 3], vec![3, 3, 65534], 3, 0),
+        (vec![4, 4], vec![4, 4], 2, 0),
+        // A list with 65,535 loses, with fewer days, too,
+        (vec![4, NONE], vec![0, 1], 2, 1),
+        (vec![NONE, NONE], vec![0, 1], 2, 1),
+        (vec![0, 1], vec![4, NONE], 2, 0),
+        (vec![0, 1], vec![NONE, 4], 2, 0),
+        // unless both have it,
+        (vec![0, 1, NONE], vec![4, 4, NONE], 3, 0),
+        (vec![NONE], vec![NONE], 1, 0),
+        // or it stands behind the first m.
+        (vec![0, 1, NONE], vec![4, 4, NONE], 2, 1),
+        (vec![4, 4, NONE], vec![4, 4, 4], 2, 0),
+        // None of them.
+        (vec![0, 1], vec![4], 0, 0),
+        (vec![NONE], vec![4], 0, 0),
+        (vec![], vec![4], 0, 0),
+        (vec![4], vec![], 0, 0),
+    ] {
+        let list = if chosen == 0 { &first } else { &second };
+        assert_front(fewer_days(&first, &second, m), list, m);
+    }
+}
+
+#[test]
+fn list_too_short() {
+    for (first, second) in [
+        (vec![0, 1], vec![4, 4, 4]),
+        (vec![0, 1, 2], vec![4, 4]),
+        (vec![0, 1], vec![4, 4]),
+        (vec![NONE, 1], vec![4, 4, 4]),
+        (vec![], vec![4, 4, 4]),
+        (vec![0, 1, 2], vec![]),
+        (vec![], vec![]),
+    ] {
+        for m in [3, 4, 4097, usize::MAX] {
+            assert_front(fewer_days(&first, &second, m), &first, 0);
+        }
+    }
+}
+
+/// The same memory for both, and parts of it that overlap.
+#[test]
+fn one_list_twice() {
+    let list = [3, 1, 1, 1];
+    assert_front(fewer_days(&list, &list, 4), &list, 4);
+    assert_front(fewer_days(&list, &list[1..], 3), &list[1..], 3);
+    assert_front(fewer_days(&list[1..], &list, 3), &list[1..], 3);
+}
+
+/// More numbers than a graph has edges, and as many colours as there are.
+#[test]
+fn long_lists() {
+    let all: Vec<u16> = (0..NONE).collect();
+    let but_one: Vec<u16> = (0..NONE).map(|color| color.max(1)).collect();
+    for m in [2, 64, 65, 4096, 4097, 8192, 65535] {
+        assert_front(fewer_days(&all, &but_one, m), &but_one, m);
+        assert_front(fewer_days(&but_one, &all, m), &but_one, m);
+        assert_front(fewer_days(&all, &all.clone(), m), &all, m);
+        // From the greatest colour down.
+        let falling: Vec<u16> = all.iter().rev().copied().collect();
+        assert_front(fewer_days(&falling, &but_one, m), &but_one, m);
+        assert_front(fewer_days(&falling, &all, m), &falling, m);
+    }
+    // Ten times each, the last number 65,535 only where it counts.
+    let mut often = all.repeat(10);
+    let mut fewer = but_one.repeat(10);
+    fewer.push(NONE);
+    often.push(0);
+    assert_front(fewer_days(&often, &fewer, 655350), &fewer, 655350);
+    assert_front(fewer_days(&often, &fewer, 655351), &often, 655351);
+    assert_front(fewer_days(&fewer, &often, 655351), &often, 655351);
+    assert_front(fewer_days(&often, &fewer, 655352), &often, 0);
+}
+
+/// Random lists of few days, small and great, beside the choice as it is said in words.
+#[test]
+fn scattered_lists() {
+    let mut state = 1u64;
+    let mut random = |below: usize| {
+        state = state
+            .wrapping_mul(6364136223846793005)
+            .wrapping_add(1442695040888963407);
+        (state >> 33) as usize % below
+    };
+    let mut chosen = [0; 3];
+    for round in 0..20_000 {
+        let most = [8, 64, 65, 4096, 4097, 12289, 65535][round % 7];
+        let mut list = || -> Vec<u16> {
+            let from = random(65536 - most);
+            let mut days = vec![0; 1 + random(20)];
+            days.fill_with(|| (from + random(most)) as u16);
+            if random(4) == 0 {
+                days[0] = NONE;
+            }
+            let length = 20 + random(40);
+            (0..length).map(|_| days[random(days.len())]).collect()
+        };
+        let (first, second) = (list(), list());
+        let m = random(40);
+        let part = fewer_days(&first, &second, m);
+        if m > first.len() || m > second.len() {
+            assert_front(part, &first, 0);
+            chosen[2] += 1;
+            continue;
+        }
+        let (one, two) = (&first[..m], &second[..m]);
+        let second_chosen = match (one.contains(&NONE), two.contains(&NONE)) {
+            (false, false) => different(two) < different(one),
+            (one, two) => one && !two,
+        };
+        assert_front(part, if second_chosen { &second } else { &first }, m);
+        chosen[usize::from(second_chosen)] += 1;
+    }
+    assert!(chosen.iter().all(|&times| times > 1000));
 }
 
 /// The list of `TAIL`.
