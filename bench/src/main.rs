@@ -1,8 +1,10 @@
 //! Measures the port beside the Rust and Boost, and prints tables in Markdown. README.md says how to read them.
 //!
-//!     bench time            times by the clock
-//!     bench dump            one dump for each measured call, under callgrind only
-//!     bench counts FOLDER   the tables of the dumps in the folder
+//!     bench time TEXT            times by the clock
+//!     bench dump TEXT            one dump for each measured call, under callgrind only
+//!     bench counts FOLDER TEXT   the tables of the dumps in the folder
+//!
+//! Only the rows are measured in whose table's title or graph's name the text stands.
 
 mod clock;
 mod count;
@@ -14,6 +16,7 @@ use std::path::Path;
 
 use graphs::Graph;
 use rows::{entrants, Entrant, CALLS};
+use subjects::Call;
 
 /// Beyond this the Rust, which stores the line graph, takes minutes under callgrind, and only the port is counted.
 const MOST_PAIRS_COUNTED: usize = 4_000_000;
@@ -49,10 +52,7 @@ fn header(title: &str, entrants: &[Entrant], unit: &str, notes: &str) {
 
 /// A row: the measures, then those of the others over the port's.
 fn row(graph: &Graph, measures: &[Measure], digits: usize, note: Option<String>) {
-    let mut cells = vec![
-        graph.name.to_string(),
-        grouped(graph.edge_count() as f64, 0),
-    ];
+    let mut cells = vec![graph.name.clone(), grouped(graph.edge_count() as f64, 0)];
     let show = |number: Measure, digits| number.map_or("-".to_string(), |x| grouped(x, digits));
     cells.extend(measures.iter().map(|&measure| show(measure, digits)));
     let ratio = |measure: Measure| Some(measure? / measures[0]?);
@@ -61,9 +61,19 @@ fn row(graph: &Graph, measures: &[Measure], digits: usize, note: Option<String>)
     println!("| {} |", cells.join(" | "));
 }
 
-fn time_tables() {
-    for (title, call) in CALLS {
-        for (i, graph) in rows::graphs(call).iter().enumerate() {
+/// The calls with their titles and graphs, as far as the text stands in either.
+fn tables(text: &str) -> Vec<(&'static str, Call, Vec<Graph>)> {
+    let table = |(title, call): (&'static str, Call)| {
+        let mut graphs = rows::graphs(call);
+        graphs.retain(|graph| title.contains(text) || graph.name.contains(text));
+        (title, call, graphs)
+    };
+    CALLS.into_iter().map(table).collect()
+}
+
+fn time_tables(text: &str) {
+    for (title, call, graphs) in tables(text) {
+        for (i, graph) in graphs.iter().enumerate() {
             let mut entrants = entrants(graph, call);
             if i == 0 {
                 header(title, &entrants, ", µs", "");
@@ -75,9 +85,9 @@ fn time_tables() {
     }
 }
 
-fn dump_all() {
-    for (title, call) in CALLS {
-        for graph in rows::graphs(call) {
+fn dump_all(text: &str) {
+    for (title, call, graphs) in tables(text) {
+        for graph in graphs {
             let mut entrants = entrants(&graph, call);
             if graph.pair_count() > MOST_PAIRS_COUNTED {
                 entrants.truncate(1);
@@ -87,10 +97,10 @@ fn dump_all() {
     }
 }
 
-fn count_tables(folder: &Path) {
+fn count_tables(folder: &Path, text: &str) {
     let dumps = count::read_dumps(folder);
-    for (title, call) in CALLS {
-        for (i, graph) in rows::graphs(call).iter().enumerate() {
+    for (title, call, graphs) in tables(text) {
+        for (i, graph) in graphs.iter().enumerate() {
             let entrants = entrants(graph, call);
             if i == 0 {
                 header(title, &entrants, "", "the port's are in");
@@ -104,7 +114,7 @@ fn count_tables(folder: &Path) {
 }
 
 /// Runs on the one thread of a pool: the Rust then sorts on that thread too, and the counts are of one thread.
-fn on_one_thread(run: fn()) {
+fn on_one_thread(run: impl FnOnce() + Send) {
     rayon::ThreadPoolBuilder::new()
         .num_threads(1)
         // As much as a main thread has, for the port's arrays and Boost's recursion.
@@ -117,9 +127,9 @@ fn on_one_thread(run: fn()) {
 fn main() {
     let arguments: Vec<String> = std::env::args().skip(1).collect();
     match arguments.iter().map(String::as_str).collect::<Vec<_>>()[..] {
-        ["time"] => time_tables(),
-        ["dump"] => on_one_thread(dump_all),
-        ["counts", folder] => count_tables(Path::new(folder)),
-        _ => panic!("bench time | bench dump | bench counts FOLDER"),
+        ["time", text] => time_tables(text),
+        ["dump", text] => on_one_thread(|| dump_all(text)),
+        ["counts", folder, text] => count_tables(Path::new(folder), text),
+        _ => panic!("bench time TEXT | bench dump TEXT | bench counts FOLDER TEXT"),
     }
 }

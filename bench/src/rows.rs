@@ -3,9 +3,10 @@
 use std::collections::HashSet;
 
 use wulgranite::ColoringStrategy::{Degree, IndependentSet, Saturation};
+use wulgranite::NONE;
 
 use crate::graphs::{double_edges, simple_graphs, Graph};
-use crate::subjects::{Answer, Boost, Call, Port, Rust, Subject};
+use crate::subjects::{Answer, Boost, Call, Port, Rust, Subject, Thriftier};
 
 /// How an answer is held against the port's.
 #[derive(Clone, Copy, PartialEq)]
@@ -13,6 +14,8 @@ pub enum Check {
     Equal,
     /// Boost chooses otherwise; it must colour properly with as many colours as the theorem allows.
     Proper,
+    /// IndependentSet in the Rust takes presets of the same day in no fixed order; it must colour properly around them.
+    AroundPresets,
 }
 
 pub struct Entrant<'a> {
@@ -32,7 +35,7 @@ impl<'a> Entrant<'a> {
 }
 
 /// The calls, each with the title of its table.
-pub const CALLS: [(&str, Call); 10] = [
+pub const CALLS: [(&str, Call); 11] = [
     ("misra_gries_edge_color", Call::MisraGries),
     ("misra_gries_add_edge", Call::AddEdge),
     ("greedy edges, Degree", Call::EdgeColor(Degree)),
@@ -49,15 +52,31 @@ pub const CALLS: [(&str, Call); 10] = [
     ),
     ("two_color", Call::TwoColor),
     ("line_graph", Call::LineGraph),
+    ("fewer_days", Call::FewerDays),
 ];
 
 /// The graphs of a call's table.
 pub fn graphs(call: Call) -> Vec<Graph> {
-    let mut graphs = simple_graphs();
+    let presets = matches!(
+        call,
+        Call::EdgeColor(_) | Call::NodeColor(_) | Call::FewerDays
+    );
+    let mut graphs = simple_graphs(presets);
     if let Call::EdgeColor(_) = call {
         graphs.push(double_edges());
     }
     graphs
+}
+
+/// How the Rust's answer is held against the port's. Only edges are so many that days are preset twice.
+fn check(graph: &Graph, call: Call) -> Check {
+    let mut seen = HashSet::new();
+    let mut presets = graph.presets(graph.edge_count()).into_iter();
+    let twice = presets.any(|day| day != NONE && !seen.insert(day));
+    match call {
+        Call::EdgeColor(IndependentSet) if twice => Check::AroundPresets,
+        _ => Check::Equal,
+    }
 }
 
 /// Who is measured on a row, the port first.
@@ -66,7 +85,16 @@ pub fn entrants(graph: &Graph, call: Call) -> Vec<Entrant<'_>> {
         call,
         Call::EdgeColor(Saturation) | Call::NodeColor(Saturation)
     );
-    let mut entrants = vec![Entrant::new("port", Check::Equal, Port::new(graph, call))];
+    if call == Call::FewerDays {
+        let port = Thriftier::new(graph, wulgranite::fewer_days);
+        let sets = Thriftier::new(graph, Thriftier::by_hash_sets);
+        return vec![
+            Entrant::new("port", Check::Equal, port),
+            Entrant::new("Rust, hash sets", Check::Equal, sets),
+        ];
+    }
+    let check = check(graph, call);
+    let mut entrants = vec![Entrant::new("port", check, Port::new(graph, call))];
     if call == Call::AddEdge {
         // The whole list afresh, which must come to the same.
         let port = Port::new(graph, Call::MisraGries);
@@ -76,7 +104,7 @@ pub fn entrants(graph: &Graph, call: Call) -> Vec<Entrant<'_>> {
         return entrants;
     }
     let rust = if saturation { "Rust, scan" } else { "Rust" };
-    entrants.push(Entrant::new(rust, Check::Equal, Rust::new(graph, call)));
+    entrants.push(Entrant::new(rust, check, Rust::new(graph, call)));
     if saturation {
         let rust = Rust::with_heap(graph, call);
         entrants.push(Entrant::new("Rust, heap", Check::Equal, rust));
@@ -97,12 +125,28 @@ fn proper(graph: &Graph, colors: &[u16]) -> bool {
     })
 }
 
+/// Whether presets stay, and edges that share an end differ, two preset ones apart.
+fn around_presets(graph: &Graph, colors: &[u16]) -> bool {
+    let presets = graph.presets(graph.edge_count());
+    let edges = || graph.ends.chunks(2).zip(colors).zip(&presets);
+    // Presets first, so that no other edge passes beside them.
+    let mut seen = HashSet::new();
+    for ((e, &color), _) in edges().filter(|(_, &preset)| preset != NONE) {
+        seen.extend([(e[0], color), (e[1], color)]);
+    }
+    edges().all(|((e, &color), &preset)| match preset {
+        NONE => seen.insert((e[0], color)) && seen.insert((e[1], color)),
+        _ => color == preset,
+    })
+}
+
 /// Ends the program where an answer is not what it must be.
 pub fn verify(graph: &Graph, port: &Answer, entrant: &Entrant) {
     let answer = entrant.subject.answer();
     let holds = match entrant.check {
         Check::Equal => answer == *port,
         Check::Proper => proper(graph, &answer.unwrap_or_default()),
+        Check::AroundPresets => around_presets(graph, &answer.unwrap_or_default()),
     };
     assert!(holds, "{} fails on {}", entrant.name, graph.name);
 }

@@ -1,6 +1,7 @@
 //! What is measured: the port, the Rust, the Rust over the heap queue, and Boost. Each goes from the same list of ends to the
 //! answer, and hands the answer back in one form, so that they can be compared.
 
+use std::collections::HashSet;
 use std::convert::Infallible;
 use std::hash::Hash;
 use std::hint::black_box;
@@ -22,6 +23,8 @@ pub enum Call {
     NodeColor(ColoringStrategy),
     TwoColor,
     LineGraph,
+    /// The edges' colours by Degree, beside those by Saturation.
+    FewerDays,
 }
 
 /// The colours by number, or the line list; nothing where the call refuses.
@@ -52,13 +55,14 @@ impl<'a> Port<'a> {
             Call::MisraGries | Call::AddEdge | Call::EdgeColor(_) => graph.edge_count(),
             Call::NodeColor(_) | Call::TwoColor => graph.n,
             Call::LineGraph => 2 * graph.pair_count(),
+            Call::FewerDays => unreachable!("Thriftier has this call"),
         };
         Port {
             graph,
             call,
             presets: match call {
                 Call::AddEdge => colors_without_last(graph),
-                _ => vec![wulgranite::NONE; length],
+                _ => graph.presets(length),
             },
             numbers: vec![wulgranite::NONE; length],
             bytes: vec![u8::MAX; length],
@@ -91,6 +95,7 @@ impl Subject for Port<'_> {
             ),
             Call::TwoColor => wulgranite::two_color(n, ends, &mut self.bytes),
             Call::LineGraph => wulgranite::line_graph(n, ends, numbers),
+            Call::FewerDays => unreachable!("Thriftier has this call"),
         };
     }
 
@@ -123,15 +128,21 @@ enum Published {
 pub struct Rust<'a> {
     graph: &'a Graph,
     call: Call,
+    presets: Vec<u16>,
     heap: bool,
     last: Option<Published>,
 }
 
 impl<'a> Rust<'a> {
     pub fn new(graph: &'a Graph, call: Call) -> Self {
+        let count = match call {
+            Call::NodeColor(_) => graph.n,
+            _ => graph.edge_count(),
+        };
         Rust {
             graph,
             call,
+            presets: graph.presets(count),
             heap: false,
             last: None,
         }
@@ -166,37 +177,41 @@ fn strategy(of: ColoringStrategy) -> coloring::ColoringStrategy {
     }
 }
 
-fn no_preset<T>(_: T) -> Result<Option<usize>, Infallible> {
-    Ok(None)
+/// An edge's or a node's preset, as the Rust asks for it.
+fn preset(presets: &[u16], number: usize) -> Result<Option<usize>, Infallible> {
+    match presets[number] {
+        wulgranite::NONE => Ok(None),
+        day => Ok(Some(day.into())),
+    }
 }
 
-fn published(graph: &UnGraph<(), ()>, call: Call) -> Published {
+fn published(graph: &UnGraph<(), ()>, call: Call, presets: &[u16]) -> Published {
+    let edge = |edge: EdgeIndex| preset(presets, edge.index());
+    let node = |node: NodeIndex| preset(presets, node.index());
     match call {
         Call::MisraGries => Published::Edges(coloring::misra_gries_edge_color(graph)),
-        Call::AddEdge => unreachable!("the Rust has no such call"),
+        Call::AddEdge | Call::FewerDays => unreachable!("the Rust has no such call"),
         Call::EdgeColor(by) => Published::Edges(
-            coloring::greedy_edge_color_with_coloring_strategy(graph, no_preset, strategy(by))
-                .unwrap(),
+            coloring::greedy_edge_color_with_coloring_strategy(graph, edge, strategy(by)).unwrap(),
         ),
         Call::NodeColor(by) => Published::Nodes(
-            coloring::greedy_node_color_with_coloring_strategy(graph, no_preset, strategy(by))
-                .unwrap(),
+            coloring::greedy_node_color_with_coloring_strategy(graph, node, strategy(by)).unwrap(),
         ),
         Call::TwoColor => Published::Sides(coloring::two_color(graph)),
         Call::LineGraph => Published::Lines(line_graph(graph, || (), || ()).0),
     }
 }
 
-fn published_over_heap(graph: &UnGraph<(), ()>, call: Call) -> Published {
+fn published_over_heap(graph: &UnGraph<(), ()>, call: Call, presets: &[u16]) -> Published {
     use heap_oracle::coloring::{self, ColoringStrategy::Saturation};
+    let edge = |edge: EdgeIndex| preset(presets, edge.index());
+    let node = |node: NodeIndex| preset(presets, node.index());
     match call {
         Call::EdgeColor(_) => Published::Edges(
-            coloring::greedy_edge_color_with_coloring_strategy(graph, no_preset, Saturation)
-                .unwrap(),
+            coloring::greedy_edge_color_with_coloring_strategy(graph, edge, Saturation).unwrap(),
         ),
         Call::NodeColor(_) => Published::Nodes(
-            coloring::greedy_node_color_with_coloring_strategy(graph, no_preset, Saturation)
-                .unwrap(),
+            coloring::greedy_node_color_with_coloring_strategy(graph, node, Saturation).unwrap(),
         ),
         _ => unreachable!("only Saturation has a queue"),
     }
@@ -215,9 +230,9 @@ impl Subject for Rust<'_> {
     fn call(&mut self) {
         let graph = petgraph(self.graph.n, black_box(&self.graph.ends));
         self.last = Some(if self.heap {
-            published_over_heap(&graph, self.call)
+            published_over_heap(&graph, self.call, &self.presets)
         } else {
-            published(&graph, self.call)
+            published(&graph, self.call, &self.presets)
         });
     }
 
@@ -233,6 +248,67 @@ impl Subject for Rust<'_> {
                 Some(lines.raw_edges().iter().flat_map(pair).collect())
             }
         }
+    }
+
+    fn forget(&mut self) {
+        self.last = None;
+    }
+}
+
+/// The first numbers of one of two lists.
+type Choice = for<'b> fn(&'b [u16], &'b [u16], usize) -> &'b [u16];
+
+/// The thriftier of two lists of colours, both of them made beforehand.
+pub struct Thriftier {
+    lists: [Vec<u16>; 2],
+    choice: Choice,
+    /// Which list, and how many numbers.
+    last: Option<(usize, usize)>,
+}
+
+impl Thriftier {
+    pub fn new(graph: &Graph, choice: Choice) -> Self {
+        let by = |strategy| {
+            let mut subject = Port::new(graph, Call::EdgeColor(strategy));
+            subject.call();
+            subject.answer().unwrap_or_default()
+        };
+        Thriftier {
+            lists: [
+                by(ColoringStrategy::Degree),
+                by(ColoringStrategy::Saturation),
+            ],
+            choice,
+            last: None,
+        }
+    }
+
+    /// The choice as one would write it without the port.
+    pub fn by_hash_sets<'b>(first: &'b [u16], second: &'b [u16], m: usize) -> &'b [u16] {
+        let (Some(one), Some(two)) = (first.get(..m), second.get(..m)) else {
+            return &first[..0];
+        };
+        let days = |list: &[u16]| list.iter().collect::<HashSet<_>>().len();
+        let unplayed = |list: &[u16]| list.contains(&wulgranite::NONE);
+        if !unplayed(two) && (unplayed(one) || days(two) < days(one)) {
+            two
+        } else {
+            one
+        }
+    }
+}
+
+impl Subject for Thriftier {
+    fn call(&mut self) {
+        let [first, second] = black_box(&self.lists);
+        let part = (self.choice)(first, second, first.len());
+        let list = usize::from(part.as_ptr() == second.as_ptr());
+        self.last = Some((list, part.len()));
+    }
+
+    fn answer(&self) -> Answer {
+        let (list, length) = self.last.expect("a call before its answer");
+        Some(self.lists[list][..length].to_vec())
     }
 
     fn forget(&mut self) {
