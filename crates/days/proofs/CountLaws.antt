@@ -12,7 +12,7 @@ use borrow.Author.Tests.{lt-ltb, le-ltb, ne-eqb}
 use Rattle.lists.proofs.Tests.{dec-eq}
 use Rattle.lists.specs.Member.{Mem, Nodup, elem}
 use Rattle.lists.specs.Different.{distinct, different}
-use Rattle.lists.proofs.MemberLaws.{elem-true, elem-false, mem-elem, not-mem-elem, pigeonhole, below, mem-below, length-below, mem-map, dec-mem, distinct-member, distinct-nodup, different-same, different-new, different-le, different-none}
+use Rattle.lists.proofs.MemberLaws.{elem-true, elem-false, mem-elem, not-mem-elem, mem-getD, pigeonhole, below, mem-below, length-below, mem-map, dec-mem, distinct-member, distinct-nodup, different-same, different-new, different-le, different-none}
 use Rattle.lists.proofs.PartsLaws.{drop-back}
 use Rattle.graph.specs.Color.{noColor, daysOf, colorsIn}
 use Rattle.days.proofs.DaysLaws.{color-member, member-color}
@@ -212,6 +212,13 @@ each-none P cs c p = absurd (rw (drop-length cs) at p)
 pub each-all : (P : ℕ → Type 0) (cs : List ℕ) (i : ℕ) → i ≤ 0 → ((c : ℕ) → Mem c (drop i cs) → P c) → (c : ℕ) → Mem c cs → P c
 each-all P cs zero h each = each
 each-all P cs (suc i) h each = absurd (omega arith)
+
+-- Whether a number stands in a list, told at the place where it does, or after all places.
+pub number-found : (number : ℕ) (cs : List ℕ) (i : ℕ) → i < length cs → getD cs i 0 ≡ number → true ≡ elem number cs
+number-found number cs i h e = sym (mem-elem number cs (rw e at (mem-getD cs i 0 h)))
+
+pub number-left : (number : ℕ) (cs : List ℕ) (i : ℕ) → i ≤ 0 → ((c : ℕ) → Mem c (drop i cs) → c ≢ number) → false ≡ elem number cs
+number-left number cs i h each = sym (not-mem-elem number cs (λ p. each-all (λ c. c ≢ number) cs i h each number p refl))
 
 -- ---- the marks that are lent
 

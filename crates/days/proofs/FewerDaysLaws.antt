@@ -15,13 +15,6 @@ use Rattle.lists.proofs.MemberLaws.{elem-true, elem-false, mem-elem, not-mem-el
 use Rattle.graph.specs.Color.{noColor, colorsIn, daysOf}
 use Rattle.days.specs.declared.LeadingPart.{LeadingPart}
 use Rattle.days.specs.FewerDays.{secondChosen, fewerDays, AllColored, FewestDays}
-use Rattle.days.proofs.CountLaws.{each-all}
-
-pub none-found : (cs : List ℕ) (i : ℕ) → i < length cs → getD cs i 0 ≡ noColor → true ≡ elem noColor cs
-none-found cs i h e = sym (mem-elem noColor cs (rw e at (mem-getD cs i 0 h)))
-
-pub none-left : (cs : List ℕ) (i : ℕ) → i ≤ 0 → ((c : ℕ) → Mem c (drop i cs) → c ≢ noColor) → false ≡ elem noColor cs
-none-left cs i h each = sym (not-mem-elem noColor cs (λ p. each-all (λ c. c ≢ noColor) cs i h each noColor p refl))
 
 -- ---- which list
 

@@ -81,23 +81,23 @@ fn count_few(colors: &[u16], most: usize) -> usize
     count_marked(colors, 0, &mut marks[..most])
 }
 
-// Colours from `from` on, of the next `length`, at most 4,096.
+// Colours from `from` on, of the next `length`, at most 16,384.
 fn count_window(colors: &[u16], from: u16, length: usize) -> usize
-    requires { ⌜ length ≤ 4096 ⌝ }
+    requires { ⌜ length ≤ 16384 ⌝ }
     ensures answer { λ r. let colors = now (colors .entry) in ⌜ r ≡ different (within from (from + length) colors) ⌝ }
 {
-    let mut marks = [false; 4096];
+    let mut marks = [false; 16384];
     count_marked(colors, from, &mut marks[..length])
 }
 
-// As many as there are, 4,096 if there are more.
-fn at_most_4096(count: usize) -> usize
-    ensures answer { λ r. ⌜ (r ≤ 4096) × (r ≤ count) × (0 < count → 0 < r) ⌝ }
+// As many as there are, 16,384 if there are more.
+fn at_most_16384(count: usize) -> usize
+    ensures answer { λ r. ⌜ (r ≤ 16384) × (r ≤ count) × (0 < count → 0 < r) ⌝ }
 {
-    if count < 4096 { count } else { 4096 }
+    if count < 16384 { count } else { 16384 }
 }
 
-// Any colours below `most`, 4,096 at a time, each time from the next one that stands in the list: so never more than 16 times, and never more often than
+// Any colours below `most`, 16,384 at a time, each time from the next one that stands in the list: so never more than 16 times, and never more often than
 // there are different colours.
 fn count_many(colors: &[u16], most: usize) -> usize
     requires { ⌜ most ≤ noColor ⌝ }
@@ -110,47 +110,68 @@ fn count_many(colors: &[u16], most: usize) -> usize
         if most <= start as usize {
             return days;
         }
-        let length = at_most_4096(most - start as usize);
+        let length = at_most_16384(most - start as usize);
         days += count_window(colors, start, length);
         from = start as usize + length;
     }
     days
 }
 
-// How many different colours there are: 65,535 is none. Linear in the list, whatever its colours are.
-pub fn days_of(colors: &[u16]) -> usize
-    ensures answer { λ r. ⌜ r ≡ daysOf (now (colors .entry)) ⌝ }
-{
-    let most = most_days(colors);
-    if most <= 64 {
-        count_few(colors, most)
-    } else {
-        count_many(colors, most)
-    }
-}
-
-// Whether a place of the list has no colour.
-fn has_none(colors: &[u16]) -> bool
-    ensures answer { λ r. ⌜ r ≡ elem noColor (now (colors .entry)) ⌝ }
+// Whether a number stands in the list.
+fn contains(colors: &[u16], number: u16) -> bool
+    ensures answer { λ r. ⌜ r ≡ elem number (now (colors .entry)) ⌝ }
 {
     let mut i = colors.len();
     while 0 < i {
         i -= 1;
-        if colors[i] == Color::NONE {
+        if colors[i] == number {
             return true;
         }
     }
     false
 }
 
+// The same without marks, for a short list: a colour counts where it stands last.
+fn count_searched(colors: &[u16]) -> usize
+    ensures answer { λ r. ⌜ r ≡ daysOf (now (colors .entry)) ⌝ }
+{
+    let mut days = 0;
+    let mut i = colors.len();
+    while 0 < i {
+        let behind = &colors[i..];
+        i -= 1;
+        let c = colors[i];
+        if c != Color::NONE {
+            if !contains(behind, c) {
+                days += 1;
+            }
+        }
+    }
+    days
+}
+
+// How many different colours there are: 65,535 is none. Linear in the list, whatever its colours are: small colours take few marks, a short list none.
+pub fn days_of(colors: &[u16]) -> usize
+    ensures answer { λ r. ⌜ r ≡ daysOf (now (colors .entry)) ⌝ }
+{
+    let most = most_days(colors);
+    if most <= 64 {
+        return count_few(colors, most);
+    }
+    if colors.len() <= 64 {
+        return count_searched(colors);
+    }
+    count_many(colors, most)
+}
+
 // Whether the second of two lists is chosen: where it has a colour everywhere, and fewer days or the first alone a place without a colour.
 fn second_chosen(first: &[u16], second: &[u16]) -> bool
     ensures answer { λ r. ⌜ r ≡ secondChosen (now (first .entry)) (now (second .entry)) ⌝ }
 {
-    if has_none(second) {
+    if contains(second, Color::NONE) {
         return false;
     }
-    if has_none(first) {
+    if contains(first, Color::NONE) {
         return true;
     }
     days_of(second) < days_of(first)
