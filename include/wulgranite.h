@@ -171,8 +171,8 @@ uint32_t wg_misra_gries_add_edge(size_t n, const uint16_t *ends, size_t ends_len
                       uint16_t *colors, size_t colors_len, size_t *days);
 
 /*
- * The thriftier of two lists of colours: WG_FIRST or WG_SECOND, whichever has fewer different ones among its first m numbers, the first
- * list where they have equally many. A list with WG_NONE among those m loses to one without; if both have it, the first is the answer.
+ * Of two lists of colours, WG_FIRST or WG_SECOND: whichever has fewer different colours among its first m numbers, the first list
+ * where they have equally many. A list with WG_NONE among those m loses to one without; if both have it, the first is the answer.
  * *length is m: so many numbers at the front of that list. If m is above either length, it is 0, at the front of the first list.
  * Nothing is refused: the lists may have any numbers and any length, above WG_MAX_EDGES too, and may be the same one.
  */

@@ -258,7 +258,7 @@ impl Subject for Rust<'_> {
 /// The first numbers of one of two lists.
 type Choice = for<'b> fn(&'b [u16], &'b [u16], usize) -> &'b [u16];
 
-/// The thriftier of two lists of colours, both of them made beforehand.
+/// The list with fewer days of two, both of them made beforehand.
 pub struct Thriftier {
     lists: [Vec<u16>; 2],
     choice: Choice,

@@ -437,7 +437,7 @@ pub fn misra_gries_add_edge(
     answer(number, days)
 }
 
-/// The thriftier of two lists of colours: the first `m` numbers of whichever has fewer days among them, of the first list
+/// Of two lists of colours the first `m` numbers of whichever has fewer days among them, of the first list
 /// where they have equally many. A list with [`NONE`] among those `m` loses to one without it; if both have it, the first
 /// is handed back. Where `m` is above either length, the part handed back is empty, at the front of the first list. The
 /// lists may have any length.

@@ -445,7 +445,7 @@ fn assert_front(part: &[u16], list: &[u16], length: usize) {
 }
 
 #[test]
-fn thriftier_list() {
+fn list_with_fewer_days() {
     for (first, second, m, chosen) in [
         // Two days against three, either way round,
         (vec![9, 0, 9], vec![0, 1, 2], 3, 0),

@@ -1,4 +1,4 @@
--- The thriftier of two colour lists: the page grid's choice (02, Point 4).
+-- Of two colour lists the one with fewer days: "the thriftier of two lists" (02, Point 4).
 use Prim.Native.Nat.{ℕ, _≤_}
 use mathlib.Core.Path.{_≡_}
 use mathlib.Core.Logic.{_⊎_}

@@ -2,8 +2,8 @@
  * A list of matches gets its days twice, greedily and by Misra and Gries, and the list with fewer of them is printed.
  *
  *     rt staticlib capi
- *     cc -Iinclude examples/c/thrifty.c target/staticlib/libcapi.a -o target/thrifty
- *     target/thrifty < examples/six-clubs.file
+ *     cc -Iinclude examples/c/fewer.c target/staticlib/libcapi.a -o target/fewer
+ *     target/fewer < examples/six-clubs.file
  */
 #include <stdio.h>
 #include "wulgranite.h"
