@@ -45,8 +45,8 @@ fn next_color(colors: &[u16], from: u16) -> u16
     next
 }
 
-// How many different numbers the list has from `from` on, as far as there are marks, each of them counted at the mark that it sets first. Where
-// all marks are set, the rest of the list has no other number.
+// How many different numbers the list has from `from` on, as far as there are marks: each counts where it sets its mark. Once all marks are
+// set, the rest of the list can add none.
 fn count_marked(colors: &[u16], from: u16, marks: &mut [bool]) -> usize
     requires { ⌜ ((i : ℕ) → getD (now marks) i false ≡ false) ⌝ }
     ensures answer { λ r. let colors = now (colors .entry) in let marks₀ = now (marks .entry) in ⌜ r ≡ different (within from (from + length marks₀) colors) ⌝ }
@@ -72,7 +72,7 @@ fn count_marked(colors: &[u16], from: u16, marks: &mut [bool]) -> usize
     days
 }
 
-// Colours below a bound, at most 64 of them.
+// Few colours: all below a small bound.
 fn count_few(colors: &[u16], most: usize) -> usize
     requires { ⌜ most ≤ 64 ⌝ }
     ensures answer { λ r. let colors = now (colors .entry) in ⌜ r ≡ different (within 0 most colors) ⌝ }
@@ -81,7 +81,7 @@ fn count_few(colors: &[u16], most: usize) -> usize
     count_marked(colors, 0, &mut marks[..most])
 }
 
-// Colours from `from` on, of the next `length`, at most 16,384.
+// The colours of one window: `length` of them, from `from` on.
 fn count_window(colors: &[u16], from: u16, length: usize) -> usize
     requires { ⌜ length ≤ 16384 ⌝ }
     ensures answer { λ r. let colors = now (colors .entry) in ⌜ r ≡ different (within from (from + length) colors) ⌝ }
@@ -90,14 +90,14 @@ fn count_window(colors: &[u16], from: u16, length: usize) -> usize
     count_marked(colors, from, &mut marks[..length])
 }
 
-// As many as there are, 16,384 if there are more.
-fn at_most_16384(count: usize) -> usize
+// How many of the colours that are left are counted next.
+fn window_length(count: usize) -> usize
     ensures answer { λ r. ⌜ (r ≤ 16384) × (r ≤ count) × (0 < count → 0 < r) ⌝ }
 {
     if count < 16384 { count } else { 16384 }
 }
 
-// Any colours below `most`, 16,384 at a time, each time from the next one that stands in the list: so never more than 16 times, and never more often than
+// Any colours below `most`, 16,384 at a time, each time from the next one that stands in the list: four times at most, and never more often than
 // there are different colours.
 fn count_many(colors: &[u16], most: usize) -> usize
     requires { ⌜ most ≤ noColor ⌝ }
@@ -110,7 +110,7 @@ fn count_many(colors: &[u16], most: usize) -> usize
         if most <= start as usize {
             return days;
         }
-        let length = at_most_16384(most - start as usize);
+        let length = window_length(most - start as usize);
         days += count_window(colors, start, length);
         from = start as usize + length;
     }
@@ -131,7 +131,7 @@ fn contains(colors: &[u16], number: u16) -> bool
     false
 }
 
-// The same without marks, for a short list: a colour counts where it stands last.
+// Without marks, for a short list: a colour counts where it stands last.
 fn count_searched(colors: &[u16]) -> usize
     ensures answer { λ r. ⌜ r ≡ daysOf (now (colors .entry)) ⌝ }
 {

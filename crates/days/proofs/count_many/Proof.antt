@@ -27,17 +27,17 @@ add-days c =
     let l = c .before .before .before .before .before .loop in
     let more = window-more _ _ _ _ (l .inv .1) (c .before .before .before .next-color .ensures) _ _ (c .count-window .ensures) in
     let colors = c .before .before .before .before .before .before .before .args .colors .now in
-    let bound = within-bound 0 (c .before .before .before .next-color .result + c .before .at-most-16384 .result) colors in
-    omega (arith, more, bound, c .before .at-most-16384 .ensures)
+    let bound = within-bound 0 (c .before .before .before .next-color .result + c .before .window-length .result) colors in
+    omega (arith, more, bound, c .before .window-length .ensures)
 
 loop-less : tie.Need-loop-less Inv-loop μ-loop
-loop-less c = omega (arith, c .before .before .before .next-color .ensures .0, c .before .at-most-16384 .ensures .2 (omega arith))
+loop-less c = omega (arith, c .before .before .before .next-color .ensures .0, c .before .window-length .ensures .2 (omega arith))
 
 loop-again : tie.Need-loop-again Inv-loop μ-loop
 loop-again c =
     let l = c .before .before .before .before .before .loop in
     let more = window-more _ _ _ _ (l .inv .1) (c .before .before .before .next-color .ensures) _ _ (c .count-window .ensures) in
-    (omega (arith, c .before .at-most-16384 .ensures), more)
+    (omega (arith, c .before .window-length .ensures), more)
 
 returns-2 : tie.Need-returns-2 Inv-loop μ-loop
 returns-2 c =
