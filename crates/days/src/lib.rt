@@ -83,21 +83,21 @@ fn count_few(colors: &[u16], most: usize) -> usize
 
 // The colours of one window: `length` of them, from `from` on.
 fn count_window(colors: &[u16], from: u16, length: usize) -> usize
-    requires { ⌜ length ≤ 16384 ⌝ }
+    requires { ⌜ length ≤ 32768 ⌝ }
     ensures answer { λ r. let colors = now (colors .entry) in ⌜ r ≡ different (within from (from + length) colors) ⌝ }
 {
-    let mut marks = [false; 16384];
+    let mut marks = [false; 32768];
     count_marked(colors, from, &mut marks[..length])
 }
 
 // How many of the colours that are left are counted next.
 fn window_length(count: usize) -> usize
-    ensures answer { λ r. ⌜ (r ≤ 16384) × (r ≤ count) × (0 < count → 0 < r) ⌝ }
+    ensures answer { λ r. ⌜ (r ≤ 32768) × (r ≤ count) × (0 < count → 0 < r) ⌝ }
 {
-    if count < 16384 { count } else { 16384 }
+    if count < 32768 { count } else { 32768 }
 }
 
-// Any colours below `most`, 16,384 at a time, each time from the next one that stands in the list: four times at most, and never more often than
+// Any colours below `most`, 32,768 at a time, each time from the next one that stands in the list: twice at most, and never more often than
 // there are different colours.
 fn count_many(colors: &[u16], most: usize) -> usize
     requires { ⌜ most ≤ noColor ⌝ }
