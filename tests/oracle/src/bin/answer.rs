@@ -1,6 +1,6 @@
 //! Reads cases on standard input and prints what the Rust answers, one line for each call; README.md has the format.
-//! Where document 01 or 02 refuses, the number is theirs; files are read and written, and late matches coloured, as
-//! rules.rs does; every other answer is that of the unchanged published code.
+//! Where document 01 or 02 refuses, the number is theirs; files are read and written, late matches coloured and days
+//! counted as rules.rs does; every other answer is that of the unchanged published code.
 
 use std::fmt::Display;
 use std::io::{BufWriter, Read, Write};
@@ -71,6 +71,15 @@ fn joined<T: Display>(numbers: &[T]) -> String {
         .join(" ")
 }
 
+/// A stretch of a list.
+fn shown(stretch: &[u16]) -> String {
+    if stretch.is_empty() {
+        "empty".to_string()
+    } else {
+        joined(stretch)
+    }
+}
+
 /// The graph that the calls below a graph line are asked about.
 struct Graph {
     n: u64,
@@ -128,12 +137,7 @@ fn put<K: Copy + Eq + std::hash::Hash>(
         assert!(color < rules::NONE.into());
         *place = color as u16;
     }
-    days(&slice.now)
-}
-
-/// The greatest colour plus one, or 0 if there is none.
-fn days<T: Copy + Ord + Into<usize>>(colors: &[T]) -> Report {
-    Report::Days(colors.iter().max().map_or(0, |&color| color.into() + 1))
+    Report::Days(rules::days(&slice.now))
 }
 
 fn strategy(number: u8, presets: &[u16]) -> ColoringStrategy {
@@ -220,7 +224,7 @@ fn two_color(graph: &Graph, colors: &mut Lent<u8>) -> Report {
     for (i, place) in colors.now.iter_mut().enumerate() {
         *place = map[&NodeIndex::new(i)];
     }
-    days(&colors.now)
+    Report::Days(rules::days(&colors.now))
 }
 
 fn line_list(graph: &Graph, list: &mut Lent<u16>) -> Report {
@@ -327,7 +331,7 @@ fn add_edge(graph: &Graph, stored: &[u16], colors: &mut Lent<u16>) -> Report {
             assert_eq!(colors.now, whole.now, "a late match and the whole run");
         }
     }
-    days(&colors.now)
+    Report::Days(rules::days(&colors.now))
 }
 
 /// What both file calls promise: where the graph checks pass, a file's contents are written with its bytes.
@@ -513,12 +517,7 @@ fn main() {
                 let (starts, entries) = (words.list(), words.list());
                 words.end();
                 let stretch = rules::stretch(&starts, &entries, node);
-                let shown = if stretch.is_empty() {
-                    "empty".to_string()
-                } else {
-                    joined(stretch)
-                };
-                writeln!(out, "{name}: {shown}").unwrap();
+                writeln!(out, "{name}: {}", shown(stretch)).unwrap();
                 continue;
             }
             "edge_walk" => {

@@ -816,6 +816,56 @@ fn presets_by_hand(blocks: &mut Vec<Block>) {
     blocks.push(b);
 }
 
+/// Presets with gaps between them, which are no days: narrow and wide gaps, few colours and as many as there may be.
+fn gaps(blocks: &mut Vec<Block>) {
+    let mut b = Block::new(3, &[]);
+    for list in [
+        [9, 0, 9],
+        [63, 0, 62],
+        [64, 0, 63],
+        [4095, 0, 4095],
+        [4096, 0, 4095],
+        [1, 4096, 4097],
+        [5, 4101, 8197],
+        [65534, 0, 65533],
+        [65534, 61439, 61438],
+        [65534, 65534, NONE],
+        [NONE, 65534, NONE],
+    ] {
+        b.node_presets(&list);
+    }
+    blocks.push(b);
+
+    // Some colours again and again, on lists that are short and longer.
+    for n in [63, 64, 65, 130] {
+        let mut b = Block::new(n, &[]);
+        for colors in [
+            [7, 7 + 4095, 7 + 4096, 7 + 4097],
+            [7, 7 + 16383, 7 + 16384, 7 + 16385],
+            [0, 16383, 32768, 65534],
+            [65534, 65534 - 16384, 63, NONE],
+        ] {
+            let nodes = 0..b.n();
+            b.node_presets(&nodes.map(|v| colors[v % 4]).collect::<Vec<u16>>());
+        }
+        let nodes = 0..n as u16;
+        b.node_presets(&nodes.map(|v| 500 * v).collect::<Vec<u16>>());
+        blocks.push(b);
+    }
+
+    let random = &mut Random(80_000);
+    let edges = simple(random, 512, 4096);
+    let mut b = Block::of(512, &edges);
+    for step in [1, 9, 128] {
+        b.node_presets(&(0..512).map(|v| v * step).collect::<Vec<u16>>());
+    }
+    let mut far_apart: Vec<u16> = (0..4096).map(|k| 65534 - 16 * k).collect();
+    random.shuffle(&mut far_apart);
+    b.edge_presets(&far_apart);
+    b.edge_presets(&(0..4096).map(|k| k % 2 * 65534).collect::<Vec<u16>>());
+    blocks.push(b);
+}
+
 /// A loop, and a double edge, in each place of a small list.
 fn loops_and_doubles(blocks: &mut Vec<Block>) {
     let base = [(0, 1), (2, 1), (3, 0), (3, 4), (4, 2)];
@@ -1622,6 +1672,7 @@ fn main() {
     orders(&mut blocks);
     shapes(random, &mut blocks);
     presets_by_hand(&mut blocks);
+    gaps(&mut blocks);
     loops_and_doubles(&mut blocks);
     random_graphs(&mut blocks);
     writing(&mut blocks);

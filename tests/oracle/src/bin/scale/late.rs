@@ -37,7 +37,7 @@ fn rust_before(n: u16, edges: &[(u16, u16)]) -> Vec<u16> {
 }
 
 /// Whether the colours are from 0 to D, edges that share an end have different ones, every node has one left over, and the
-/// days are as many as the greatest says.
+/// days are as many as there are different ones.
 fn holds(graph: &Graph, outcome: &Outcome) -> bool {
     let mut degrees = vec![0; graph.n];
     for &end in &graph.ends {
@@ -45,10 +45,8 @@ fn holds(graph: &Graph, outcome: &Outcome) -> bool {
     }
     let count = degrees.into_iter().max().unwrap_or(0) + 1;
     let mut seen = vec![vec![false; count]; graph.n];
-    let mut days = 0;
     for (e, &color) in graph.ends.chunks(2).zip(&outcome.lent) {
         let color = usize::from(color);
-        days = days.max(color + 1);
         if color >= count {
             return false;
         }
@@ -59,7 +57,9 @@ fn holds(graph: &Graph, outcome: &Outcome) -> bool {
         }
     }
     let left_over = |at: &Vec<bool>| at.contains(&false);
-    outcome.lent.len() == graph.m() && outcome.report == days && seen.iter().all(left_over)
+    outcome.lent.len() == graph.m()
+        && outcome.report == rules::days(&outcome.lent)
+        && seen.iter().all(left_over)
 }
 
 /// The last edge late, with so many colours lent; hands back what the port did.

@@ -261,12 +261,6 @@ fn colors(graph: &Graph, question: Question) -> Vec<u16> {
     }
 }
 
-/// The greatest colour plus one, or 0 if there is none.
-fn days(colors: &[u16]) -> usize {
-    let greatest = colors.iter().max();
-    greatest.map_or(0, |&color| usize::from(color) + 1)
-}
-
 /// A late match by rules.rs.
 fn added(graph: &Graph, question: Question) -> Outcome {
     let mut outcome = unchanged(question);
@@ -274,7 +268,7 @@ fn added(graph: &Graph, question: Question) -> Outcome {
     match rules::add_edge(n, ends, question.presets, question.lent) {
         Err(number) => outcome.code = number.into(),
         Ok(colors) => {
-            outcome.report = days(&colors);
+            outcome.report = rules::days(&colors);
             outcome.lent = colors;
         }
     }
@@ -299,7 +293,7 @@ pub fn answer(graph: &Graph, question: Question) -> Outcome {
         Call::LineGraph => line_list(graph, &mut outcome),
         _ => {
             outcome.lent = colors(graph, question);
-            outcome.report = days(&outcome.lent);
+            outcome.report = rules::days(&outcome.lent);
         }
     }
     outcome
