@@ -1,12 +1,15 @@
-// The calls of the program `replay` that need no other colours than two: the table of incidences, a node's edges, two_color, the line
-// list, the files. Each lends so much of its slices as its line says, calls, and prints the answer. Part of a test program; the
-// functions promise nothing but to end.
+// The calls of the program `replay` but for the colourings with more than two colours: the table of incidences, a node's edges, two_color,
+// the line list, the list with fewer days, the files. Each lends so much of its slices as its line says, calls, and prints the answer. Part
+// of a test program; the functions promise nothing but to end.
 use crate::report::put_coloring;
 use crate::report::put_file;
 use crate::report::put_incidence;
+use crate::report::put_leading_part;
 use crate::report::put_line_list;
 use crate::report::put_walk;
 use crate::report::put_written;
+use days::fewer_days;
+use days::fewer_days_part;
 use edge_walk::edges_at;
 use graph::NodeIndex;
 use replay_input::Line;
@@ -123,6 +126,25 @@ fn call_line_graph(
     put(text, end, b'\n')
 }
 
+// Both lists are the line's own, under one lifetime since either may be handed out. One call says which list and how long the part is, the other
+// hands out its numbers.
+fn call_fewer_days<'a>(
+    text: &mut [u8],
+    waiting: usize,
+    line: Line,
+    list: &'a [u16],
+    entries: &'a [u16],
+) -> usize {
+    let f = cut(line.second, list);
+    let s = cut(line.third, entries);
+    let first = &list[..f];
+    let second = &entries[..s];
+    let part = fewer_days_part(first, second, line.first);
+    let end = put_leading_part(text, waiting, part);
+    let end = put_part(text, end, fewer_days(first, second, line.first));
+    put(text, end, b'\n')
+}
+
 fn call_read_file(
     text: &mut [u8],
     waiting: usize,
@@ -186,6 +208,7 @@ pub fn call(
         Name::EdgeWalk => call_edge_walk(text, waiting, n, ends, line, list, entries),
         Name::TwoColor => call_two_color(text, waiting, n, ends, line, bytes),
         Name::LineGraph => call_line_graph(text, waiting, n, ends, line, list),
+        Name::FewerDays => call_fewer_days(text, waiting, line, list, entries),
         Name::ReadGraphFile => call_read_file(text, waiting, file, line, list, entries),
         Name::WriteGraphFile => call_write_file(text, waiting, n, ends, presets, line, bytes),
         _ => waiting,

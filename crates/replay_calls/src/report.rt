@@ -1,4 +1,5 @@
 // The answers of the calls as they are printed.
+use days::LeadingPart;
 use edge_walk::WalkStep;
 use edge_walk::edge_at;
 use graph::Coloring;
@@ -93,6 +94,15 @@ pub(crate) fn put_walk(
             }
         }
     }
+}
+
+// Which of two lists, and how many of its first numbers.
+pub(crate) fn put_leading_part(text: &mut [u8], waiting: usize, part: LeadingPart) -> usize {
+    let length = part.length as u64;
+    if part.second {
+        return put_report(text, waiting, b"fewer_days second", b"length", length);
+    }
+    put_report(text, waiting, b"fewer_days first", b"length", length)
 }
 
 fn put_read(

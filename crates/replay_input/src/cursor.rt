@@ -13,7 +13,7 @@ pub struct Cursor {
 }
 
 impl Cursor {
-    // Some thirty times the longest list of cases.
+    // Some fifteen times the longest list of cases.
     const MOST_BYTES: usize = 67108864;
 
     // The end counts as a line feed, so that whatever is missing ends like a line.

@@ -111,20 +111,26 @@ fn read_file(buffer: &mut [u8], input: Cursor, file: &mut [u8]) -> Line
     }
 }
 
-// edges_at V S s1 .. sS E e1 .. eE
-fn read_table(buffer: &mut [u8], input: Cursor, starts: &mut [u16], entries: &mut [u16]) -> Line
+// edges_at V S s1 .. sS E e1 .. eE, and fewer_days M F f1 .. fF S s1 .. sS
+fn read_two_lists(
+    buffer: &mut [u8],
+    input: Cursor,
+    name: Name,
+    list: &mut [u16],
+    entries: &mut [u16],
+) -> Line
     ensures left { λ r. ⌜ r .next .left ≤ input .left - 1 ⌝ }
 {
-    let node = read_number(buffer, input);
-    let from = node.input;
-    let first = read_list(buffer, from, starts);
+    let number = read_number(buffer, input);
+    let from = number.input;
+    let first = read_list(buffer, from, list);
     let from = first.input;
     let second = read_list(buffer, from, entries);
     let rest = second.input;
     let next = skip_line(buffer, rest);
     Line {
-        name: Name::EdgesAt,
-        first: node.value,
+        name,
+        first: number.value,
         second: first.count,
         third: second.count,
         next,
@@ -156,7 +162,7 @@ pub fn read_line(
     input: Cursor,
     ends: &mut [u16],
     presets: &mut [u16],
-    starts: &mut [u16],
+    list: &mut [u16],
     entries: &mut [u16],
     file: &mut [u8],
 ) -> Line
@@ -168,7 +174,7 @@ pub fn read_line(
     match name {
         Name::Graph => read_graph(buffer, from, ends),
         Name::Presets => read_presets(buffer, from, presets),
-        Name::EdgesAt => read_table(buffer, from, starts, entries),
+        Name::EdgesAt | Name::FewerDays => read_two_lists(buffer, from, name, list, entries),
         Name::File => read_file(buffer, from, file),
         _ => read_call(buffer, from, name),
     }

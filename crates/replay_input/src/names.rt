@@ -20,6 +20,7 @@ pub enum Name {
     GreedyEdgeColorWithColoringStrategy,
     MisraGriesEdgeColor,
     MisraGriesAddEdge,
+    FewerDays,
     File,
     ReadGraphFile,
     WriteGraphFile,
@@ -96,6 +97,9 @@ fn name_of(word: &[u8]) -> Name {
     }
     if same(word, b"line_graph") {
         return Name::LineGraph;
+    }
+    if same(word, b"fewer_days") {
+        return Name::FewerDays;
     }
     if same(word, b"file") {
         return Name::File;

@@ -1,5 +1,7 @@
 //! Random numbers, and the graphs and colours that the oracle's programs make.
 
+use crate::rules::NONE;
+
 /// Splitmix64: short, and the same everywhere.
 pub struct Random(pub u64);
 
@@ -105,4 +107,76 @@ pub fn renamed(random: &mut Random, colors: &[u16], greatest: u16) -> Vec<u16> {
         .iter()
         .map(|&color| names[usize::from(color)])
         .collect()
+}
+
+/// How many colours a random list chooses from: few, all, and about the numbers at which the port counts otherwise.
+const COLOR_COUNTS: [usize; 14] = [
+    1, 2, 5, 63, 64, 65, 66, 4095, 4096, 4097, 16383, 16384, 16385, 65535,
+];
+
+/// So many colours, from 0 on or from anywhere. At times one is missing.
+fn color_list(random: &mut Random, length: usize) -> Vec<u16> {
+    let count = COLOR_COUNTS[random.below(COLOR_COUNTS.len())];
+    let from = match random.below(2) {
+        0 => 0,
+        _ => random.below(65536 - count),
+    };
+    let color = |_| (from + random.below(count)) as u16;
+    let mut colors: Vec<u16> = (0..length).map(color).collect();
+    if length > 0 && random.below(4) == 0 {
+        colors[random.below(length)] = NONE;
+    }
+    colors
+}
+
+/// A list of much the same days: the same list, shuffled, under other names, or with a place changed.
+fn near_list(random: &mut Random, list: &[u16]) -> Vec<u16> {
+    let mut near = list.to_vec();
+    if list.is_empty() {
+        return near;
+    }
+    let (place, other) = (random.below(list.len()), random.below(list.len()));
+    match random.below(6) {
+        0 => random.shuffle(&mut near),
+        1 => {
+            let by = random.below(usize::from(NONE));
+            let renamed = |&color: &u16| (usize::from(color) + by) % usize::from(NONE);
+            let colors = near.iter_mut().filter(|color| **color != NONE);
+            colors.for_each(|color| *color = renamed(color) as u16);
+        }
+        2 => near[place] = list[other],
+        3 => near[place] = random.below(usize::from(NONE)) as u16,
+        4 => near[place] = NONE,
+        _ => {}
+    }
+    near
+}
+
+/// Two lists of up to so many colours, mostly of nearly as many days and nearly as long, and how many of their first numbers
+/// count: mostly all that both have.
+pub fn two_lists(random: &mut Random, most: usize) -> (Vec<u16>, Vec<u16>, usize) {
+    let length = random.below(most + 1);
+    let first = color_list(random, length);
+    let mut second = match random.below(4) {
+        0 => {
+            let length = random.below(most + 1);
+            color_list(random, length)
+        }
+        _ => near_list(random, &first),
+    };
+    match random.below(6) {
+        0 => second.extend([NONE, 3, NONE]),
+        1 => second.truncate(length.saturating_sub(1)),
+        _ => {}
+    }
+    let both = first.len().min(second.len());
+    let m = match random.below(8) {
+        0 => random.below(both + 1),
+        1 => both + random.below(4),
+        _ => both,
+    };
+    match random.below(2) {
+        0 => (first, second, m),
+        _ => (second, first, m),
+    }
 }

@@ -1,6 +1,6 @@
 //! Reads cases on standard input and prints what the Rust answers, one line for each call; README.md has the format.
-//! Where document 01 or 02 refuses, the number is theirs; files are read and written, late matches coloured and days
-//! counted as rules.rs does; every other answer is that of the unchanged published code.
+//! Where document 01 or 02 refuses, the number is theirs; files are read and written, late matches coloured, days counted
+//! and lists compared as rules.rs does; every other answer is that of the unchanged published code.
 
 use std::fmt::Display;
 use std::io::{BufWriter, Read, Write};
@@ -518,6 +518,16 @@ fn main() {
                 words.end();
                 let stretch = rules::stretch(&starts, &entries, node);
                 writeln!(out, "{name}: {}", shown(stretch)).unwrap();
+                continue;
+            }
+            "fewer_days" => {
+                let m = words.number();
+                let (first, second) = (words.list(), words.list());
+                words.end();
+                let (second_wins, part) = rules::fewer_days(&first, &second, m);
+                let list = if second_wins { "second" } else { "first" };
+                let (length, part) = (part.len(), shown(part));
+                writeln!(out, "{name} {list} length {length}: {part}").unwrap();
                 continue;
             }
             "edge_walk" => {

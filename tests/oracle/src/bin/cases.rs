@@ -1,6 +1,6 @@
 //! Writes the case file, the same bytes each time: `cases FAMILY ..` with the families incidence, two_color,
-//! line_graph, node_color, edge_color, misra_gries, late, file. All cases are made and only then sifted by family, so
-//! switching a family on alters no line of another.
+//! line_graph, node_color, edge_color, misra_gries, late, file, fewer_days. All cases are made and only then sifted by
+//! family, so switching a family on alters no line of another.
 
 use std::io::Write;
 
@@ -8,8 +8,8 @@ use petgraph::graph::{EdgeIndex, NodeIndex, UnGraph};
 use rustworkx_core::coloring::misra_gries_edge_color;
 use rustworkx_core::rules::{self, field_bytes, Saved, COLORS_TOLD, METHOD_TOLD, NONE};
 use rustworkx_core::shapes::{
-    bipartite, complete, cycle, flat, mixed, path, proper_colors, renamed, simple, star, Edges,
-    Random,
+    bipartite, complete, cycle, flat, mixed, path, proper_colors, renamed, simple, star, two_lists,
+    Edges, Random,
 };
 
 #[derive(Clone, Copy, PartialEq)]
@@ -22,6 +22,7 @@ enum Family {
     MisraGries,
     Late,
     File,
+    FewerDays,
 }
 
 impl Family {
@@ -35,6 +36,7 @@ impl Family {
             "misra_gries" => Family::MisraGries,
             "late" => Family::Late,
             "file" => Family::File,
+            "fewer_days" => Family::FewerDays,
             _ => return None,
         })
     }
@@ -1660,6 +1662,142 @@ fn late_limits(blocks: &mut Vec<Block>) {
     }
 }
 
+/// Two lists, and how many of their first numbers count.
+struct TwoLists {
+    first: Vec<u16>,
+    second: Vec<u16>,
+    m: usize,
+}
+
+/// So many different colours, each so much above the one before, the last again and again up to a length.
+fn stepped(from: u16, step: u16, count: usize, length: usize) -> Vec<u16> {
+    let last = count as u16 - 1;
+    (0..length as u16)
+        .map(|place| from + place.min(last) * step)
+        .collect()
+}
+
+/// Lists to choose between.
+fn lists_to_choose() -> Vec<TwoLists> {
+    let mut cases = Vec::new();
+    small_lists(&mut cases);
+    lengths_of_lists(&mut cases);
+    days_of_lists(&mut cases);
+    for i in 0..500 {
+        let random = &mut Random(81_000 + i);
+        let most = match i % 50 {
+            49 => 1000,
+            40..=48 => 80,
+            _ => 24,
+        };
+        let (first, second, m) = two_lists(random, most);
+        cases.push(TwoLists { first, second, m });
+    }
+    long_lists(&mut cases);
+    cases
+}
+
+/// All lists of up to two numbers, with every m up to one too many; all lists of three.
+fn small_lists(cases: &mut Vec<TwoLists>) {
+    let mut add_pairs = |lists: &[Vec<u16>], m: usize| {
+        for first in lists {
+            for second in lists {
+                let (first, second) = (first.clone(), second.clone());
+                cases.push(TwoLists { first, second, m });
+            }
+        }
+    };
+    let up_to_two = [0, 1, 2].map(|length| all_of(&[0, 7, NONE], length));
+    for m in 0..=3 {
+        add_pairs(&up_to_two.concat(), m);
+    }
+    add_pairs(&all_of(&[65534, 2, NONE], 3), 3);
+}
+
+/// Every m about the lengths, and such as are small numbers if they are cut to 16, 32 or 63 bits.
+fn lengths_of_lists(cases: &mut Vec<TwoLists>) {
+    let about = [0, 1 << 16, 1 << 32, 1 << 63].map(|high| [3, 4, 5, 6].map(|low| high + low));
+    for m in about.concat().into_iter().chain([usize::MAX]) {
+        for (first, second) in [(4, 5), (5, 4), (5, 5)] {
+            cases.push(TwoLists {
+                first: stepped(0, 1, 3, first),
+                second: stepped(9, 0, 1, second),
+                m,
+            });
+        }
+    }
+}
+
+/// As many days and one fewer, wherever the colours lie: from 0 on or beyond 64 or 4,096, near each other or far apart. Long lists
+/// are only compared with those of the same place.
+fn days_of_lists(cases: &mut Vec<TwoLists>) {
+    let places = [
+        (0, 1),
+        (61, 1),
+        (62, 1),
+        (63, 1),
+        (64, 1),
+        (4093, 1),
+        (4094, 1),
+        (4095, 1),
+        (4096, 1),
+        (65532, 1),
+        (0, 32),
+        (1, 32),
+        (0, 2047),
+        (0, 2048),
+        (3, 4095),
+        (3, 4096),
+        (3, 4097),
+        (3, 16383),
+        (3, 16384),
+        (3, 16385),
+        (0, 32767),
+    ];
+    let mut add = |place: (u16, u16), other: (u16, u16), m: usize| {
+        for (count, other_count) in [(3, 3), (3, 2), (2, 3)] {
+            cases.push(TwoLists {
+                first: stepped(place.0, place.1, count, m),
+                second: stepped(other.0, other.1, other_count, m),
+                m,
+            });
+        }
+    };
+    for place in places {
+        for other in places {
+            add(place, other, 4);
+        }
+        for m in [64, 65] {
+            add(place, place, m);
+        }
+    }
+}
+
+/// As many different colours as there are matches, and one fewer; 65,535 at the end of either, and beyond the m.
+fn long_lists(cases: &mut Vec<TwoLists>) {
+    let random = &mut Random(82_000);
+    let mut first: Vec<u16> = (0..4096).map(|k| 65534 - 16 * k).collect();
+    random.shuffle(&mut first);
+    let mut second: Vec<u16> = (0..4096).collect();
+    random.shuffle(&mut second);
+    let mut add = |first: &[u16], second: &[u16], m: usize| {
+        cases.push(TwoLists {
+            first: first.to_vec(),
+            second: second.to_vec(),
+            m,
+        });
+    };
+    add(&first, &second, 4096);
+    second[4095] = second[0];
+    add(&first, &second, 4096);
+    add(&first, &second, 4095);
+    add(&first, &second, 4097);
+    second[4095] = NONE;
+    add(&first, &second, 4096);
+    add(&second, &first, 4096);
+    add(&[7; 8400], &[65534; 8400], 8400);
+}
+
 fn main() {
     let chosen: Vec<Family> = std::env::args()
         .skip(1)
@@ -1713,6 +1851,11 @@ fn main() {
             for length in case.texts {
                 writeln!(out, "matchdays {length}").unwrap();
             }
+        }
+    }
+    if chosen.contains(&Family::FewerDays) {
+        for TwoLists { first, second, m } in lists_to_choose() {
+            writeln!(out, "fewer_days {m} {} {}", words(&first), words(&second)).unwrap();
         }
     }
     out.flush().unwrap();
