@@ -3,6 +3,7 @@
 
 mod choices;
 mod exhaustive;
+mod fewer_days;
 mod files;
 mod late;
 mod models;
@@ -17,13 +18,14 @@ use std::process::ExitCode;
 
 use tally::Tally;
 
-const PARTS: [(&str, fn(&mut Tally)); 6] = [
+const PARTS: [(&str, fn(&mut Tally)); 7] = [
     ("exhaustive", exhaustive::run),
     ("refusals", refusals::run),
     ("choices", choices::run),
     ("random", random::run),
     ("files", files::run),
     ("late", late::run),
+    ("fewer_days", fewer_days::run),
 ];
 
 fn main() -> ExitCode {
@@ -32,7 +34,8 @@ fn main() -> ExitCode {
         .iter()
         .find(|word| PARTS.iter().all(|(name, _)| name != word))
     {
-        eprintln!("no part {word:?}: exhaustive, refusals, choices, random, files or late");
+        let names = PARTS.map(|(name, _)| name).join(", ");
+        eprintln!("no part {word:?}: {names}");
         return ExitCode::from(2);
     }
     models::check();

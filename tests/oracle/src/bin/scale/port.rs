@@ -3,7 +3,7 @@
 
 use rustworkx_core::rules;
 
-use crate::question::{Call, FileRead, Outcome, Question, Writing, Written, REPORT_BEFORE};
+use crate::question::{Call, Chosen, FileRead, Outcome, Question, Writing, Written, REPORT_BEFORE};
 
 // The prototypes are those of the Rust crate at the repository's root, which has more calls than are asked here.
 #[allow(dead_code)]
@@ -219,5 +219,30 @@ pub fn write_file(writing: &Writing) -> Written {
             || ends.margins_changed()
             || colors.margins_changed()
             || output.margins_changed(),
+    }
+}
+
+/// Has the port choose between two lists by their first m numbers.
+pub fn fewer_days(first: &[u16], second: &[u16], m: usize) -> Chosen {
+    let (mut handed_first, mut handed_second) = (numbers(first), numbers(second));
+    let mut length = REPORT_BEFORE;
+    // SAFETY: every pointer comes with the length of its slice, and no two slices overlap.
+    let list = unsafe {
+        ffi::wg_fewer_days(
+            handed_first.pointer(),
+            first.len(),
+            handed_second.pointer(),
+            second.len(),
+            m,
+            &mut length,
+        )
+    };
+    Chosen {
+        list,
+        length,
+        wrote_elsewhere: handed_first.slice() != first
+            || handed_second.slice() != second
+            || handed_first.margins_changed()
+            || handed_second.margins_changed(),
     }
 }

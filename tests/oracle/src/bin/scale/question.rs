@@ -113,3 +113,12 @@ pub struct FileRead {
     pub colors: Vec<u16>,
     pub wrote_elsewhere: bool,
 }
+
+/// All that can be seen of the choice between two lists afterwards.
+#[derive(Clone, Debug, PartialEq)]
+pub struct Chosen {
+    /// 0 for the first, 1 for the second.
+    pub list: u32,
+    pub length: usize,
+    pub wrote_elsewhere: bool,
+}
