@@ -6,7 +6,7 @@ use wulgranite::ColoringStrategy::{Degree, IndependentSet, Saturation};
 use wulgranite::NONE;
 
 use crate::graphs::{double_edges, simple_graphs, Graph};
-use crate::subjects::{Answer, Boost, Call, Port, Rust, Subject, Thriftier};
+use crate::subjects::{Answer, Boost, Call, Port, Rust, Subject, FewerDays};
 
 /// How an answer is held against the port's.
 #[derive(Clone, Copy, PartialEq)]
@@ -86,8 +86,8 @@ pub fn entrants(graph: &Graph, call: Call) -> Vec<Entrant<'_>> {
         Call::EdgeColor(Saturation) | Call::NodeColor(Saturation)
     );
     if call == Call::FewerDays {
-        let port = Thriftier::new(graph, wulgranite::fewer_days);
-        let sets = Thriftier::new(graph, Thriftier::by_hash_sets);
+        let port = FewerDays::new(graph, wulgranite::fewer_days);
+        let sets = FewerDays::new(graph, FewerDays::by_hash_sets);
         return vec![
             Entrant::new("port", Check::Equal, port),
             Entrant::new("Rust, hash sets", Check::Equal, sets),

@@ -55,7 +55,7 @@ impl<'a> Port<'a> {
             Call::MisraGries | Call::AddEdge | Call::EdgeColor(_) => graph.edge_count(),
             Call::NodeColor(_) | Call::TwoColor => graph.n,
             Call::LineGraph => 2 * graph.pair_count(),
-            Call::FewerDays => unreachable!("Thriftier has this call"),
+            Call::FewerDays => unreachable!("FewerDays has this call"),
         };
         Port {
             graph,
@@ -95,7 +95,7 @@ impl Subject for Port<'_> {
             ),
             Call::TwoColor => wulgranite::two_color(n, ends, &mut self.bytes),
             Call::LineGraph => wulgranite::line_graph(n, ends, numbers),
-            Call::FewerDays => unreachable!("Thriftier has this call"),
+            Call::FewerDays => unreachable!("FewerDays has this call"),
         };
     }
 
@@ -259,21 +259,21 @@ impl Subject for Rust<'_> {
 type Choice = for<'b> fn(&'b [u16], &'b [u16], usize) -> &'b [u16];
 
 /// The list with fewer days of two, both of them made beforehand.
-pub struct Thriftier {
+pub struct FewerDays {
     lists: [Vec<u16>; 2],
     choice: Choice,
     /// Which list, and how many numbers.
     last: Option<(usize, usize)>,
 }
 
-impl Thriftier {
+impl FewerDays {
     pub fn new(graph: &Graph, choice: Choice) -> Self {
         let by = |strategy| {
             let mut subject = Port::new(graph, Call::EdgeColor(strategy));
             subject.call();
             subject.answer().unwrap_or_default()
         };
-        Thriftier {
+        FewerDays {
             lists: [
                 by(ColoringStrategy::Degree),
                 by(ColoringStrategy::Saturation),
@@ -298,7 +298,7 @@ impl Thriftier {
     }
 }
 
-impl Subject for Thriftier {
+impl Subject for FewerDays {
     fn call(&mut self) {
         let [first, second] = black_box(&self.lists);
         let part = (self.choice)(first, second, first.len());

@@ -1,9 +1,11 @@
 // The page grid: boxes that touch differ. Boxes are nodes, or edges, which touch where they share an end.
 ghost use mathlib.Core.Path.{_≡_};
 ghost use mathlib.Core.List.{[]};
+ghost use mathlib.Core.Bool.{cond};
+ghost use lib.ListN.{take};
 ghost use Rattle.graph.specs.Report.{reportOfColoring};
 ghost use Rattle.graph.specs.Edges.{edgeCount};
-ghost use Rattle.days.specs.FewerDays.{FewestDays};
+ghost use Rattle.days.specs.FewerDays.{fewerDays, FewestDays};
 ghost use Rattle.greedy.specs.Degree.{degreeColors};
 ghost use Rattle.greedy.specs.Call.{ruleOf, greedyNodes, greedyNodesPlain, greedyEdges, greedyEdgesPlain};
 ghost use Rattle.callers.specs.Reliance.{AdjacentNodesDiffer, AdjacentEdgesDiffer, Lent, LentBoth};
@@ -71,8 +73,13 @@ pub fn adjacent_edges_differ_unless_preset(
     greedy_edge_color_with_coloring_strategy(n, ends, presets, strategy, colors)
 }
 
-// Of two lists of boxes' pages the one that takes fewer.
-pub fn fewest_pages<'a>(first: &'a [u16], second: &'a [u16], m: usize) -> &'a [u16]
+// Of two lists of days the one that has fewer.
+pub fn fewest_days<'a>(first: &'a [u16], second: &'a [u16], m: usize) -> &'a [u16]
+    ensures contents { λ r. let first = now (first .entry) in let second = now (second .entry) in let part = fewerDays first second m in
+        ⌜ now r ≡ take (part .length) (cond (part .second) second first) ⌝ }
+    ensures place { λ r. let part = fewerDays (now (first .entry)) (now (second .entry)) m in
+        ⌜ (r .ptr .0 ≡ cond (part .second) (second .entry .ptr .0) (first .entry .ptr .0))
+        × (r .ptr .1 ≡ cond (part .second) (second .entry .ptr .1) (first .entry .ptr .1)) ⌝ }
     ensures relied { λ r. ⌜ FewestDays (now (first .entry)) (now (second .entry)) m (now r) ⌝ }
 {
     fewer_days(first, second, m)

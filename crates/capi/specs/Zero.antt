@@ -1,4 +1,4 @@
--- 0 means accepted, of every function: no check refuses by 0.
+-- 0 means accepted, of every function that can refuse: no check refuses by 0.
 use Prim.Native.Nat.{ℕ}
 use mathlib.Core.Path.{_≡_, refl, sym, ap, _∙_}
 use mathlib.Core.List.{List, [], _∷_, _++_}

@@ -1,5 +1,5 @@
 // The C interface. Each call answers 0 where it accepted, or the refusal's number, and hands its report back through a pointer,
-// which is unchanged on a refusal. include/wulgranite.h declares these functions for C.
+// which is unchanged on a refusal; wg_fewer_days, which refuses nothing, answers which list. include/wulgranite.h declares these functions for C.
 ghost use Prim.Native.Nat.{ℕ};
 ghost use mathlib.Core.Path.{_≡_};
 ghost use mathlib.Core.Bool.{cond};

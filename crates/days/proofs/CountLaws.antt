@@ -10,10 +10,10 @@ use lib.ListN.{length, length-map, length-set, length-replicate, drop, take, get
 use lib.Seq.{drop-length, length-take-le, getD-take, getD-set-same, getD-set-other}
 use borrow.Author.Tests.{lt-ltb, le-ltb, ne-eqb}
 use Rattle.lists.proofs.Tests.{dec-eq}
-use Rattle.lists.specs.Member.{Mem, Nodup, elem}
+use Rattle.lists.specs.Member.{Mem, elem}
 use Rattle.lists.specs.Different.{distinct, different}
 use Rattle.lists.proofs.MemberLaws.{elem-true, elem-false, mem-elem, not-mem-elem, mem-getD, pigeonhole, below, mem-below, length-below, mem-map, dec-mem, distinct-member, distinct-nodup, different-same, different-new, different-le, different-none}
-use Rattle.lists.proofs.PartsLaws.{drop-back}
+use Rattle.lists.proofs.PartsLaws.{drop-back, drop-none}
 use Rattle.graph.specs.Color.{noColor, daysOf, colorsIn}
 use Rattle.days.proofs.DaysLaws.{color-member, member-color}
 use Rattle.days.specs.Within.{within}
@@ -140,7 +140,7 @@ module _ {colors : List ℕ} {from size i days : ℕ} {marks : List Bool} (C : C
   counted-full e = omega (arith, C .sized, C .counted, within-bound from (from + size) colors, within-more from (from + size) (drop i colors) colors (drop-member i colors))
 
   pub counted-all : i ≤ 0 → days ≡ different (within from (from + size) colors)
-  counted-all h = let z : i ≡ 0 = omega arith in C .counted ∙ ap (λ (j : ℕ). different (within from (from + size) (drop j colors))) z
+  counted-all = drop-none (λ (l : List ℕ). different (within from (from + size) l)) colors i days (C .counted)
 
   module _ (some : 0 < i) where
     at : drop (i - 1) colors ≡ getD colors (i - 1) 0 ∷ drop i colors

@@ -1,6 +1,6 @@
 -- Laws of `daysOf`, how many different colours a list has. No other file opens the definition.
-use Prim.Native.Nat.{ℕ, zero, suc, _+_, _-_, _≤_, _<_}
-use mathlib.Core.Path.{_≡_, refl, sym, ap, _∙_}
+use Prim.Native.Nat.{ℕ, suc, _+_, _-_, _≤_, _<_}
+use mathlib.Core.Path.{_≡_, sym, ap, _∙_}
 use mathlib.Core.Logic.{inl, inr, _≢_}
 use mathlib.Core.List.{List, [], _∷_}
 use native.Mathlib.Omega.{arith}
@@ -12,7 +12,7 @@ use Rattle.lists.proofs.Tests.{dec-eq}
 use Rattle.lists.specs.Member.{Mem, Nodup, elem}
 use Rattle.lists.specs.Different.{distinct, different}
 use Rattle.lists.proofs.MemberLaws.{elem-true, elem-false, pigeonhole, nodup-bound, cover-bound, distinct-member, member-distinct, distinct-nodup, different-same, different-new}
-use Rattle.lists.proofs.PartsLaws.{drop-back}
+use Rattle.lists.proofs.PartsLaws.{drop-back, drop-none}
 use Rattle.graph.specs.Color.{noColor, colorsIn, daysOf}
 
 -- ---- the colours of a list are its members but 65,535
@@ -119,7 +119,7 @@ module _ (cs : List ℕ) (i days : ℕ) (e : days ≡ daysOf (drop i cs)) where
   days-passed = omega (arith, e, days-at-most (drop i cs), length-drop i cs)
 
   pub days-all : i ≤ 0 → days ≡ daysOf cs
-  days-all h = let z : i ≡ 0 = omega arith in e ∙ ap (λ (j : ℕ). daysOf (drop j cs)) z
+  days-all = drop-none daysOf cs i days e
 
   module _ (some : 0 < i) (inside : i ≤ length cs) where
     pub days-behind-none : getD cs (i - 1) 0 ≡ noColor → days ≡ daysOf (drop (i - 1) cs)

@@ -1,17 +1,18 @@
 -- Laws of the choice between two lists.
-use Prim.Native.Nat.{ℕ, zero, suc, _-_, _≤_, _<_}
+use Prim.Native.Nat.{ℕ, _≤_, _<_}
 use mathlib.Core.Path.{_≡_, refl, sym, ap, _∙_}
-use mathlib.Core.Logic.{_⊎_, inl, inr, _≢_}
+use mathlib.Core.Logic.{_⊎_, inl, inr}
 use mathlib.Core.List.{List, []}
 use mathlib.Core.Bool.{Bool, true, false, not, _||_, cond}
 use native.Mathlib.Omega.{arith}
-use lib.ListN.{length, drop, getD, take}
+use lib.ListN.{length, take}
+use lib.Seq.{length-take-le}
 use lib.Dec.{ltb}
 use borrow.Author.Tests.{lt-ltb, le-ltb, ltb-true, ltb-false, not-true}
-use Rattle.lists.specs.Member.{Mem, elem}
+use Rattle.lists.specs.Member.{elem}
 use Rattle.lists.specs.Different.{distinct, different}
 use Rattle.lists.proofs.Tests.{by-test, and-true, or-true, or-false}
-use Rattle.lists.proofs.MemberLaws.{elem-true, elem-false, mem-elem, not-mem-elem, mem-getD}
+use Rattle.lists.proofs.MemberLaws.{elem-true, elem-false, not-mem-elem}
 use Rattle.graph.specs.Color.{noColor, colorsIn, daysOf}
 use Rattle.days.specs.declared.LeadingPart.{LeadingPart}
 use Rattle.days.specs.FewerDays.{secondChosen, fewerDays, AllColored, FewestDays}
@@ -71,6 +72,12 @@ module _ (first second : List ℕ) (m : ℕ) where
 module _ (first second : List ℕ) (m : ℕ) (part : LeadingPart) (e : part ≡ fewerDays first second m) where
   abbrev Contents : List ℕ → Type 0
   Contents handed = handed ≡ take (fewerDays first second m .length) (cond (fewerDays first second m .second) second first)
+
+  -- It stands in either list, so as much of either as it has is as long.
+  pub cut-length : (part .length ≡ length (take (part .length) first)) × (part .length ≡ length (take (part .length) second))
+  cut-length =
+      let inside : (part .length ≤ length first) × (part .length ≤ length second) = rw e (part-inside first second m) in
+      (sym (length-take-le (part .length) first (inside .0)), sym (length-take-le (part .length) second (inside .1)))
 
   pub cut-empty : part .length ≡ 0 → Contents []
   cut-empty z = rw (sym e) (simp z)

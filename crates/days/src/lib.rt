@@ -150,7 +150,8 @@ fn count_searched(colors: &[u16]) -> usize
     days
 }
 
-// How many different colours there are: 65,535 is none. Linear in the list, whatever its colours are: small colours take few marks, a short list none.
+// How many different colours there are: 65,535 is none. Linear in the list, whatever its colours are. Colours below 64 take 64 marks; large ones none
+// in a list of at most 64 places, where a search is quicker than clearing marks.
 pub fn days_of(colors: &[u16]) -> usize
     ensures answer { λ r. ⌜ r ≡ daysOf (now (colors .entry)) ⌝ }
 {

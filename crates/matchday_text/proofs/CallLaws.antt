@@ -20,7 +20,7 @@ use Rattle.days.proofs.DaysLaws.{days-at-most}
 use Rattle.graph.specs.Colored.{colorOf}
 use Rattle.vizing.specs.MisraGries.{misraGries, misraGriesChecks, held}
 use Rattle.vizing.specs.Demand3.{Admitted}
-use Rattle.vizing.proofs.Theorem.{max-degree-bound, passed-admitted, demand3, misra-gries-colors, checks-pass}
+use Rattle.vizing.proofs.Theorem.{max-degree-bound, passed-admitted, demand3, checks-pass}
 use Rattle.vizing.proofs.DefinitionLaws.{some-or-none}
 use Rattle.matchday_text.specs.Text.{followed, decimal, line, edgeLine, edgeLines, daysText, refusedText, reportText, outcomeText, coloredText, daysWord, refusedWord, space, lineFeed, fileText, PassesOver, digits}
 use Rattle.matchday_text.proofs.PutLaws.{decimal-length, put-front}

@@ -11,7 +11,7 @@ use lib.Seq.{drop-cons, drop-length}
 use lib.Dec.{eqb, ltb}
 use borrow.Author.Tests.{eq-eqb, ne-eqb, lt-ltb, le-ltb, not-true, not-false}
 use Rattle.lists.proofs.Tests.{and-false, and-right}
-use Rattle.lists.proofs.PartsLaws.{drop-back}
+use Rattle.lists.proofs.PartsLaws.{drop-back, drop-none}
 use Rattle.graph.specs.Color.{noColor}
 use Rattle.graph.specs.Edges.{firstEnd, secondEnd}
 use Rattle.graph.specs.Stretch.{stretch}
@@ -112,7 +112,7 @@ pub greatest-start : (cs : List ℕ) → 0 ≡ greatestColor (drop (length cs) c
 greatest-start cs = rw (drop-length cs) (sym greatest-none)
 
 pub greatest-all : (cs : List ℕ) (k g : ℕ) → g ≡ greatestColor (drop k cs) → k ≤ 0 → g ≡ greatestColor cs
-greatest-all cs k g e h = let z : k ≡ 0 = omega arith in e ∙ ap (λ (j : ℕ). greatestColor (drop j cs)) z
+greatest-all = drop-none greatestColor
 
 -- A colour alone, 0 for the mark.
 abbrev ColorAlone : ℕ → ℕ → Type 0

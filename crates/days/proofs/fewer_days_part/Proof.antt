@@ -1,6 +1,5 @@
 -- `fewer_days_part` meets its contract: a list is too short, or one is chosen.
 use mathlib.Core.Path.{sym}
-use native.Mathlib.Omega.{arith}
 use lib.Seq.{length-take-le}
 use borrow.Author.Needs.{needs}
 use Rattle.days.proofs.FewerDaysLaws.{part-short, part-short-second, part-chosen}

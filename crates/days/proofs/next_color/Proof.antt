@@ -1,9 +1,9 @@
 -- `next_color` meets its contract. The invariant: no number from i on that is not below `from` is below `next`.
 -- The measure: i, which each turn lowers by one.
-use Prim.Native.Nat.{ℕ, _≤_, _<_, _-_}
+use Prim.Native.Nat.{ℕ, _≤_}
 use mathlib.Core.Logic.{⊎-elim}
 use native.Mathlib.Omega.{arith}
-use lib.ListN.{length, drop, getD}
+use lib.ListN.{length, drop}
 use borrow.Author.Needs.{needs}
 use Rattle.lists.specs.Member.{Mem}
 use Rattle.days.proofs.CountLaws.{each-none, each-more, each-all}

@@ -1,6 +1,5 @@
 -- `color_from` meets its contract: the stored colours are entered or refused, then the run's list and tally are read off.
 use mathlib.Core.Path.{refl, sym, _∙_}
-use native.Mathlib.Omega.{arith}
 use lib.Seq.{length-take-le}
 use borrow.Author.Needs.{needs}
 use borrow.Author.Tests.{not-true, not-false}

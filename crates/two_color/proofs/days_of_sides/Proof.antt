@@ -1,7 +1,5 @@
 -- `days_of_sides` meets its contract: its tests are those of the definition.
 use borrow.Author.Tests.{lt-ltb, le-ltb}
-use borrow.Author.Needs.{needs}
-use native.Mathlib.Omega.{arith}
 use Rattle.two_color.specs.TwoColor.{sideDays}
 use Rattle.two_color.proofs.days_of_sides.Statement.{statement}
 use Rattle.two_color.proofs.days_of_sides.Tie as tie

@@ -1,5 +1,4 @@
 -- `days_after` meets its contract: its test is that of the promise.
-use mathlib.Core.Path.{_∙_}
 use borrow.Author.Tests.{eq-eqb, ne-eqb}
 use borrow.Author.Needs.{needs}
 use Rattle.misra_gries.proofs.run.days_after.Statement.{statement}
