@@ -106,7 +106,7 @@ fn numbers_of_days(tally: &mut Tally) {
     let random = &mut Random(41_000_000);
     let counts = [
         1, 2, 3, 45, 55, 62, 63, 64, 65, 66, 127, 128, 4094, 4095, 4096, 4097, 4098, 8191, 8192,
-        8193, 16383, 16384, 16385, 65533, 65534,
+        8193, 16383, 16384, 16385, 32767, 32768, 32769, 65533, 65534,
     ];
     for days in counts {
         for _ in 0..12 {
@@ -131,7 +131,7 @@ fn numbers_of_days(tally: &mut Tally) {
     }
     let remark = due.remark();
     tally.end_part(
-        "fewer_days: days about 64, 4,096, 16,384 and 65,535",
+        "fewer_days: days about 64, 4,096, 16,384, 32,768 and 65,535",
         &remark,
     );
 }
