@@ -80,13 +80,13 @@ module _ (lo hi : ℕ) where
 -- ---- bounds side by side
 
 -- Nothing between a and b.
-pub within-gap : (a b : ℕ) (cs : List ℕ) → a ≤ b → ((c : ℕ) → Mem c cs → a ≤ c → b ≤ c) → different (within 0 a cs) ≡ different (within 0 b cs)
+within-gap : (a b : ℕ) (cs : List ℕ) → a ≤ b → ((c : ℕ) → Mem c cs → a ≤ c → b ≤ c) → different (within 0 a cs) ≡ different (within 0 b cs)
 within-gap a b cs h gap = different-same (within 0 a cs) (within 0 b cs)
     (λ c p. let r = within-member 0 a cs c p in member-within 0 b cs c (r .0) (omega arith) (omega (arith, r .2)))
     (λ c p. let r = within-member 0 b cs c p in member-within 0 a cs c (r .0) (omega arith) (elim (decLt c a) [ yes l ↦ l | no l ↦ absurd (omega (arith, r .2, gap c (r .0) (omega arith))) ]))
 
 -- Up to b, and from there on.
-pub within-sum : (b c : ℕ) (cs : List ℕ) → b ≤ c → different (within 0 b cs) + different (within b c cs) ≡ different (within 0 c cs)
+within-sum : (b c : ℕ) (cs : List ℕ) → b ≤ c → different (within 0 b cs) + different (within b c cs) ≡ different (within 0 c cs)
 unfolding within
 within-sum b c [] h = simp different-none
 within-sum b c (x ∷ cs) h = elim (dec-mem x cs) [

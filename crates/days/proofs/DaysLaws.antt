@@ -1,4 +1,4 @@
--- Laws of `daysOf`, how many different colours a list has. No other file opens the definition.
+-- Laws of `daysOf`, how many different colours a list has. No other law opens the definition but `within-days`, which counting ends with, and worked examples.
 use Prim.Native.Nat.{ℕ, suc, _+_, _-_, _≤_, _<_}
 use mathlib.Core.Path.{_≡_, sym, ap, _∙_}
 use mathlib.Core.Logic.{inl, inr, _≢_}
@@ -54,7 +54,7 @@ days-once cs ds u from to =
     )
 
 -- Which colours there are decides the days.
-pub days-same : (cs ds : List ℕ) → ((c : ℕ) → c ≢ noColor → Mem c cs → Mem c ds) → ((c : ℕ) → c ≢ noColor → Mem c ds → Mem c cs) → daysOf cs ≡ daysOf ds
+days-same : (cs ds : List ℕ) → ((c : ℕ) → c ≢ noColor → Mem c cs → Mem c ds) → ((c : ℕ) → c ≢ noColor → Mem c ds → Mem c cs) → daysOf cs ≡ daysOf ds
 unfolding daysOf
 days-same cs ds to from = different-same (colorsIn cs) (colorsIn ds)
     (λ c p. let r = color-member cs c p in member-color ds c (to c (r .1) (r .0)) (r .1))
@@ -95,14 +95,14 @@ none-days cs e c p = elim (dec-eq c noColor) [
 
 -- ---- one place more, from the back
 
-pub days-uncolored : (c : ℕ) (cs : List ℕ) → c ≡ noColor → daysOf (c ∷ cs) ≡ daysOf cs
+days-uncolored : (c : ℕ) (cs : List ℕ) → c ≡ noColor → daysOf (c ∷ cs) ≡ daysOf cs
 unfolding daysOf
 days-uncolored c cs e = ap different (in-uncolored c cs e)
 
-pub days-again : (c : ℕ) (cs : List ℕ) → Mem c cs → daysOf (c ∷ cs) ≡ daysOf cs
+days-again : (c : ℕ) (cs : List ℕ) → Mem c cs → daysOf (c ∷ cs) ≡ daysOf cs
 days-again c cs p = days-same (c ∷ cs) cs (λ d n q. elim q [ inl e ↦ rw e p | inr r ↦ r ]) (λ d n q. inr q)
 
-pub days-new : (c : ℕ) (cs : List ℕ) → c ≢ noColor → (Mem c cs → ⊥) → daysOf (c ∷ cs) ≡ suc (daysOf cs)
+days-new : (c : ℕ) (cs : List ℕ) → c ≢ noColor → (Mem c cs → ⊥) → daysOf (c ∷ cs) ≡ suc (daysOf cs)
 unfolding daysOf
 days-new c cs n p = ap different (in-colored c cs n) ∙ different-new c (colorsIn cs) (λ q. p (color-member cs c q .0))
 
