@@ -6,7 +6,6 @@ use mathlib.Core.List.{List, []}
 use mathlib.Core.Bool.{Bool, true, false, not, _||_, cond}
 use native.Mathlib.Omega.{arith}
 use lib.ListN.{length, take}
-use lib.Seq.{length-take-le}
 use lib.Dec.{ltb}
 use borrow.Author.Tests.{lt-ltb, le-ltb, ltb-true, ltb-false, not-true}
 use Rattle.lists.specs.Member.{elem}
@@ -73,11 +72,8 @@ module _ (first second : List ℕ) (m : ℕ) (part : LeadingPart) (e : part ≡ 
   abbrev Contents : List ℕ → Type 0
   Contents handed = handed ≡ take (fewerDays first second m .length) (cond (fewerDays first second m .second) second first)
 
-  -- It stands in either list, so as much of either as it has is as long.
-  pub cut-length : (part .length ≡ length (take (part .length) first)) × (part .length ≡ length (take (part .length) second))
-  cut-length =
-      let inside : (part .length ≤ length first) × (part .length ≤ length second) = rw e (part-inside first second m) in
-      (sym (length-take-le (part .length) first (inside .0)), sym (length-take-le (part .length) second (inside .1)))
+  pub cut-inside : (part .length ≤ length first) × (part .length ≤ length second)
+  cut-inside = rw e (part-inside first second m)
 
   pub cut-empty : part .length ≡ 0 → Contents []
   cut-empty z = rw (sym e) (simp z)

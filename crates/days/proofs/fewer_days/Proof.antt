@@ -1,9 +1,10 @@
 -- `fewer_days` meets its contract: the part is cut off the list that it is of.
 use mathlib.Core.Path.{sym, ap, _∙_}
 use native.Mathlib.Omega.{arith}
+use lib.Seq.{length-take-le}
 use borrow.Author.Needs.{needs}
 use Rattle.days.specs.declared.LeadingPart.{LeadingPart}
-use Rattle.days.proofs.FewerDaysLaws.{part-empty, cut-length, cut-empty, cut-second, cut-first, fewest-days}
+use Rattle.days.proofs.FewerDaysLaws.{part-empty, cut-inside, cut-empty, cut-second, cut-first, fewest-days}
 use Rattle.days.proofs.fewer_days.Statement.{statement}
 use Rattle.days.proofs.fewer_days.Tie as tie
 
@@ -17,11 +18,12 @@ returns c =
     let contents = cut-empty _ _ _ _ e z in
     (contents, ((simp of-first, simp of-first (omega arith)), fewest-days _ _ _ _ contents))
 
+-- Whichever list the part is cut off, it stands in it.
 slice-aggregate-result : tie.Need-slice-aggregate-result
-slice-aggregate-result c = cut-length _ _ _ _ (c .before .before .before .before .fewer-days-part .ensures) .1
+slice-aggregate-result c = let inside = cut-inside _ _ _ _ (c .before .before .before .before .fewer-days-part .ensures) in sym (length-take-le _ _ (omega (arith, inside)))
 
 slice-aggregate-result-2 : tie.Need-slice-aggregate-result-2
-slice-aggregate-result-2 c = cut-length _ _ _ _ (c .before .before .before .before .fewer-days-part .ensures) .0
+slice-aggregate-result-2 c = let inside = cut-inside _ _ _ _ (c .before .before .before .before .fewer-days-part .ensures) in sym (length-take-le _ _ (omega (arith, inside)))
 
 returns-2 : tie.Need-returns-2
 returns-2 c =
