@@ -510,7 +510,7 @@ fn one_list_twice() {
 fn long_lists() {
     let all: Vec<u16> = (0..NONE).collect();
     let but_one: Vec<u16> = (0..NONE).map(|color| color.max(1)).collect();
-    for m in [2, 64, 65, 4096, 32768, 32769, 65535] {
+    for m in [2, 64, 65, 128, 129, 4096, 32768, 32769, 65535] {
         assert_front(fewer_days(&all, &but_one, m), &but_one, m);
         assert_front(fewer_days(&but_one, &all, m), &but_one, m);
         assert_front(fewer_days(&all, &all.clone(), m), &all, m);
@@ -530,7 +530,7 @@ fn long_lists() {
     assert_front(fewer_days(&often, &fewer, 655352), &often, 0);
 }
 
-/// Random lists of few days, small and great, beside the choice as it is said in words.
+/// Random lists of few days, small, great and both, beside the choice as it is said in words.
 #[test]
 fn scattered_lists() {
     let mut state = 1u64;
@@ -546,7 +546,11 @@ fn scattered_lists() {
         let mut list = || -> Vec<u16> {
             let from = random(65536 - most);
             let mut days = vec![0; 1 + random(20)];
-            days.fill_with(|| (from + random(most)) as u16);
+            let small = round % 5;
+            days.fill_with(|| match random(4) < small {
+                true => random(64) as u16,
+                false => (from + random(most)) as u16,
+            });
             if random(4) == 0 {
                 days[0] = NONE;
             }

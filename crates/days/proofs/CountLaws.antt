@@ -6,8 +6,8 @@ use mathlib.Core.List.{List, [], _∷_, map}
 use mathlib.Core.Bool.{Bool, true, false}
 use native.Mathlib.Omega.{arith}
 use native.Mathlib.Decide.{decLt}
-use lib.ListN.{length, length-map, length-set, length-replicate, drop, take, getD, set, replicate, getD-replicate, List·getD-eq-default}
-use lib.Seq.{drop-length, length-take-le, getD-take, getD-set-same, getD-set-other}
+use lib.ListN.{length, length-map, length-set, length-replicate, length-drop, drop, take, getD, set, replicate, getD-replicate, List·getD-eq-default}
+use lib.Seq.{drop-length, drop-set-lt, length-take-le, take-all, getD-take, getD-set-same, getD-set-other}
 use borrow.Author.Tests.{lt-ltb, le-ltb, ne-eqb}
 use Rattle.lists.proofs.Tests.{dec-eq}
 use Rattle.lists.specs.Member.{Mem, elem}
@@ -107,6 +107,10 @@ within-days b cs (small, below) = different-same (within 0 b cs) (colorsIn cs)
     (λ c p. let r = within-member 0 b cs c p in member-color cs c (r .0) (λ e. omega (arith, r .2)))
     (λ c p. let r = color-member cs c p in member-within 0 b cs c (r .0) (omega arith) (below c (r .0) (r .1)))
 
+-- The small ones and the large ones together.
+pub parted-days : (split b : ℕ) (cs : List ℕ) → split ≤ noColor → (b ≤ noColor) × ((c : ℕ) → Mem c cs → c ≢ noColor → c < b) → different (within 0 split cs) + different (within split noColor cs) ≡ daysOf cs
+parted-days split b cs h (small, below) = within-sum split noColor cs h ∙ within-days noColor cs (omega arith, λ c p n. omega (arith, small, below c p n))
+
 -- ---- counting from the back, as the code does
 
 drop-member : (i : ℕ) (cs : List ℕ) (c : ℕ) → Mem c (drop i cs) → Mem c cs
@@ -200,6 +204,86 @@ module _ {colors : List ℕ} {from size i days : ℕ} {marks : List Bool} (C : C
               | inl e ↦ rw e (getD-set-same marks (getD colors (i - 1) 0 - from) true false k ∙ sym (mem-elem _ _ (inl at-place)))
               | inr n ↦ getD-set-other marks (getD colors (i - 1) 0 - from) j true false n ∙ (C .marked j b ∙ sym (elem-there (from + j) _ (drop i colors) (λ e. n (omega arith))))
             ]
+
+-- ---- counting without marks: a number counts where it stands last
+
+different-again : (x : ℕ) (xs : List ℕ) → Mem x xs → different (x ∷ xs) ≡ different xs
+different-again x xs p = different-same (x ∷ xs) xs (λ y q. elim q [ inl e ↦ rw e p | inr r ↦ r ]) (λ y q. inr q)
+
+different-at-most : (xs : List ℕ) → different xs ≤ length xs
+unfolding different
+different-at-most xs = pigeonhole (distinct xs) xs (distinct-nodup xs) (distinct-member xs)
+
+-- The rest of a list, as a slice has it.
+rest-taken : (xs : List ℕ) (size i : ℕ) → length xs ≡ size → take (size - i) (drop i xs) ≡ drop i xs
+rest-taken xs size i e = take-all (size - i) (drop i xs) (omega (arith, length-drop i xs))
+
+pub searched-start : (xs : List ℕ) → 0 ≡ different (drop (length xs) xs)
+searched-start xs = rw (drop-length xs) (sym different-none)
+
+module _ (xs : List ℕ) (i count : ℕ) (e : count ≡ different (drop i xs)) where
+  -- There are no more than places passed.
+  pub searched-bound : count ≤ length xs - i
+  searched-bound = omega (arith, e, different-at-most (drop i xs), length-drop i xs)
+
+  pub searched-all : i ≤ 0 → count ≡ different xs
+  searched-all = drop-none different xs i count e
+
+  module _ (some : 0 < i) (inside : i ≤ length xs) (b : Bool) (t : b ≡ elem (getD xs (i - 1) 0) (take (length xs - i) (drop i xs))) where
+    pub searched-again : b ≡ true → count ≡ different (drop (i - 1) xs)
+    searched-again u = rw (drop-back xs i some inside) (e ∙ sym (different-again (getD xs (i - 1) 0) (drop i xs) (elem-true _ _ (rw (rest-taken xs (length xs) i refl) at (sym t ∙ u)))))
+
+    pub searched-new : b ≡ false → count + 1 ≡ different (drop (i - 1) xs)
+    searched-new u = rw (drop-back xs i some inside) (omega (arith, e, different-new (getD xs (i - 1) 0) (drop i xs) (elem-false _ _ (rw (rest-taken xs (length xs) i refl) at (sym t ∙ u)))))
+
+-- ---- the numbers within bounds, copied out from the back on
+
+-- The numbers passed that are within the bounds stand in the list from `place` on.
+pub record Copied (lo hi : ℕ) (colors : List ℕ) (size i place : ℕ) (list : List ℕ) : Type 0 where
+  pub inside : i ≤ length colors
+  pub sized : length list ≡ size
+  pub room : place ≤ size
+  pub copied : drop place list ≡ within lo hi (drop i colors)
+
+pub copied-start : (lo hi : ℕ) (colors list : List ℕ) → Copied lo hi colors (length list) (length colors) (length list) list
+unfolding within
+copied-start lo hi colors list = record { inside = omega arith; sized = refl; room = omega arith; copied = rw (drop-length colors, drop-length list) refl }
+
+module _ {lo hi : ℕ} {colors : List ℕ} {size i place : ℕ} {list : List ℕ} (C : Copied lo hi colors size i place list) where
+  pub copied-all : i ≤ 0 → drop place list ≡ within lo hi colors
+  copied-all h = let z : i ≡ 0 = omega arith in C .copied ∙ ap (λ (j : ℕ). within lo hi (drop j colors)) z
+
+  module _ (some : 0 < i) where
+    at-back : drop (i - 1) colors ≡ getD colors (i - 1) 0 ∷ drop i colors
+    at-back = drop-back colors i some (C .inside)
+
+    left : within lo hi (getD colors (i - 1) 0 ∷ drop i colors) ≡ within lo hi (drop i colors) → Copied lo hi colors size (i - 1) place list
+    left e = record { inside = omega (arith, C .inside); sized = C .sized; room = C .room; copied = C .copied ∙ sym (rw at-back e) }
+
+    pub copied-low : getD colors (i - 1) 0 < lo → Copied lo hi colors size (i - 1) place list
+    copied-low a = left (within-low lo hi _ (drop i colors) a)
+
+    module _ (a : lo ≤ getD colors (i - 1) 0) where
+      pub copied-high : hi ≤ getD colors (i - 1) 0 → Copied lo hi colors size (i - 1) place list
+      copied-high b = left (within-high lo hi _ (drop i colors) a b)
+
+      pub copied-in : getD colors (i - 1) 0 < hi → 0 < place → Copied lo hi colors size (i - 1) (place - 1) (set list (place - 1) (getD colors (i - 1) 0))
+      copied-in b h = record {
+        inside = omega (arith, C .inside);
+        sized = length-set list (place - 1) (getD colors (i - 1) 0) ∙ C .sized;
+        room = omega (arith, C .room);
+        copied = rw (at-back, within-in lo hi x (drop i colors) a b) (drop-back (set list (place - 1) x) place h (omega (arith, length-set list (place - 1) x, C .sized, C .room)) ∙ front);
+      }
+        where
+          x : ℕ
+          x = getD colors (i - 1) 0
+
+          front : getD (set list (place - 1) x) (place - 1) 0 ∷ drop place (set list (place - 1) x) ≡ x ∷ within lo hi (drop i colors)
+          front = rw (getD-set-same list (place - 1) x 0 (omega (arith, C .sized, C .room)), drop-set-lt place list (place - 1) x (omega arith), C .copied)
+
+-- What a search of the copies counts.
+pub copied-counted : (lo hi size place r : ℕ) (colors list : List ℕ) → length list ≡ size → drop place list ≡ within lo hi colors → r ≡ different (take (size - place) (drop place list)) → r ≡ different (within lo hi colors)
+copied-counted lo hi size place r colors list e f g = g ∙ ap different (rest-taken list size place e ∙ f)
 
 -- ---- what is said of every number from place i on
 

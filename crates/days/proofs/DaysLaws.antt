@@ -1,18 +1,15 @@
 -- Laws of `daysOf`, how many different colours a list has. No other law opens the definition but `within-days`, which counting ends with, and worked examples.
-use Prim.Native.Nat.{ℕ, suc, _+_, _-_, _≤_, _<_}
-use mathlib.Core.Path.{_≡_, sym, ap, _∙_}
+use Prim.Native.Nat.{ℕ, _≤_, _<_}
+use mathlib.Core.Path.{_≡_}
 use mathlib.Core.Logic.{inl, inr, _≢_}
 use mathlib.Core.List.{List, [], _∷_}
 use native.Mathlib.Omega.{arith}
-use mathlib.Core.Bool.{Bool, true, false}
-use lib.ListN.{length, length-drop, drop, take, getD}
-use lib.Seq.{drop-length, take-all}
+use lib.ListN.{length}
 use borrow.Author.Tests.{eq-eqb, ne-eqb}
 use Rattle.lists.proofs.Tests.{dec-eq}
-use Rattle.lists.specs.Member.{Mem, Nodup, elem}
+use Rattle.lists.specs.Member.{Mem, Nodup}
 use Rattle.lists.specs.Different.{distinct, different}
-use Rattle.lists.proofs.MemberLaws.{elem-true, elem-false, pigeonhole, nodup-bound, cover-bound, distinct-member, member-distinct, distinct-nodup, different-same, different-new}
-use Rattle.lists.proofs.PartsLaws.{drop-back, drop-none}
+use Rattle.lists.proofs.MemberLaws.{pigeonhole, nodup-bound, cover-bound, distinct-member, member-distinct, distinct-nodup}
 use Rattle.graph.specs.Color.{noColor, colorsIn, daysOf}
 
 -- ---- the colours of a list are its members but 65,535
@@ -53,13 +50,6 @@ days-once cs ds u from to =
       pigeonhole ds (distinct colors) u (λ c p. let r = from c p in member-distinct colors c (member-color cs c (r .0) (r .1))),
     )
 
--- Which colours there are decides the days.
-days-same : (cs ds : List ℕ) → ((c : ℕ) → c ≢ noColor → Mem c cs → Mem c ds) → ((c : ℕ) → c ≢ noColor → Mem c ds → Mem c cs) → daysOf cs ≡ daysOf ds
-unfolding daysOf
-days-same cs ds to from = different-same (colorsIn cs) (colorsIn ds)
-    (λ c p. let r = color-member cs c p in member-color ds c (to c (r .1) (r .0)) (r .1))
-    (λ c p. let r = color-member ds c p in member-color cs c (from c (r .1) (r .0)) (r .1))
-
 -- Colours below b make at most b days,
 pub days-below : (cs : List ℕ) (b : ℕ) → ((c : ℕ) → Mem c cs → c ≢ noColor → c < b) → daysOf cs ≤ b
 unfolding daysOf different
@@ -92,42 +82,3 @@ none-days cs e c p = elim (dec-eq c noColor) [
     empty : (xs : List ℕ) → length xs ≡ 0 → Mem c xs → ⊥
     empty [] z q = q
     empty (x ∷ xs) z q = omega (arith, z)
-
--- ---- one place more, from the back
-
-days-uncolored : (c : ℕ) (cs : List ℕ) → c ≡ noColor → daysOf (c ∷ cs) ≡ daysOf cs
-unfolding daysOf
-days-uncolored c cs e = ap different (in-uncolored c cs e)
-
-days-again : (c : ℕ) (cs : List ℕ) → Mem c cs → daysOf (c ∷ cs) ≡ daysOf cs
-days-again c cs p = days-same (c ∷ cs) cs (λ d n q. elim q [ inl e ↦ rw e p | inr r ↦ r ]) (λ d n q. inr q)
-
-days-new : (c : ℕ) (cs : List ℕ) → c ≢ noColor → (Mem c cs → ⊥) → daysOf (c ∷ cs) ≡ suc (daysOf cs)
-unfolding daysOf
-days-new c cs n p = ap different (in-colored c cs n) ∙ different-new c (colorsIn cs) (λ q. p (color-member cs c q .0))
-
-pub days-start : (cs : List ℕ) → 0 ≡ daysOf (drop (length cs) cs)
-days-start cs = sym (days-none (drop (length cs) cs) (λ c p. absurd (rw (drop-length cs) at p)))
-
--- The rest of a list, as a slice has it.
-rest-taken : (cs : List ℕ) (i : ℕ) → take (length cs - i) (drop i cs) ≡ drop i cs
-rest-taken cs i = take-all (length cs - i) (drop i cs) (omega (arith, length-drop i cs))
-
-module _ (cs : List ℕ) (i days : ℕ) (e : days ≡ daysOf (drop i cs)) where
-  -- There are no more days than places passed.
-  pub days-passed : days ≤ length cs - i
-  days-passed = omega (arith, e, days-at-most (drop i cs), length-drop i cs)
-
-  pub days-all : i ≤ 0 → days ≡ daysOf cs
-  days-all = drop-none daysOf cs i days e
-
-  module _ (some : 0 < i) (inside : i ≤ length cs) where
-    pub days-behind-none : getD cs (i - 1) 0 ≡ noColor → days ≡ daysOf (drop (i - 1) cs)
-    days-behind-none z = rw (drop-back cs i some inside) (e ∙ sym (days-uncolored (getD cs (i - 1) 0) (drop i cs) z))
-
-    module _ (b : Bool) (t : b ≡ elem (getD cs (i - 1) 0) (take (length cs - i) (drop i cs))) where
-      pub days-behind-again : b ≡ true → days ≡ daysOf (drop (i - 1) cs)
-      days-behind-again u = rw (drop-back cs i some inside) (e ∙ sym (days-again (getD cs (i - 1) 0) (drop i cs) (elem-true _ _ (rw (rest-taken cs i) at (sym t ∙ u)))))
-
-      pub days-behind-new : getD cs (i - 1) 0 ≢ noColor → b ≡ false → days + 1 ≡ daysOf (drop (i - 1) cs)
-      days-behind-new n u = rw (drop-back cs i some inside) (omega (arith, e, days-new (getD cs (i - 1) 0) (drop i cs) n (elem-false _ _ (rw (rest-taken cs i) at (sym t ∙ u)))))

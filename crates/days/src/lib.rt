@@ -3,7 +3,7 @@ ghost use mathlib.Core.Path.{_≡_};
 ghost use mathlib.Core.Logic.{_≢_};
 ghost use mathlib.Core.Bool.{false, cond};
 ghost use Prim.Native.Nat.{ℕ, _+_, _≤_, _<_};
-ghost use lib.ListN.{length, getD, take};
+ghost use lib.ListN.{length, getD, take, drop};
 ghost use Rattle.lists.specs.Member.{Mem, elem};
 ghost use Rattle.lists.specs.Different.{different};
 ghost use Rattle.graph.specs.Color.{daysOf, noColor};
@@ -131,27 +131,48 @@ fn contains(colors: &[u16], number: u16) -> bool
     false
 }
 
-// Without marks, for a short list: a colour counts where it stands last.
-fn count_searched(colors: &[u16]) -> usize
-    ensures answer { λ r. ⌜ r ≡ daysOf (now (colors .entry)) ⌝ }
+// Without marks, for a short list: a number counts where it stands last.
+fn count_searched(numbers: &[u16]) -> usize
+    ensures answer { λ r. ⌜ r ≡ different (now (numbers .entry)) ⌝ }
 {
-    let mut days = 0;
+    let mut count = 0;
+    let mut i = numbers.len();
+    while 0 < i {
+        let behind = &numbers[i..];
+        i -= 1;
+        if !contains(behind, numbers[i]) {
+            count += 1;
+        }
+    }
+    count
+}
+
+// The large colours, those from 64 on, in their order, into the back of a list of at most 64 places: from which place on they stand there, 65 if
+// they are more than the list has places.
+fn copy_large(colors: &[u16], large: &mut [u16]) -> usize
+    requires { ⌜ length (now large) ≤ 64 ⌝ }
+    ensures copied { λ r. let colors = now (colors .entry) in ⌜ (r ≤ 64 → drop r (now (large .exit)) ≡ within 64 noColor colors) ⌝ }
+{
+    let mut place = large.len();
     let mut i = colors.len();
     while 0 < i {
-        let behind = &colors[i..];
         i -= 1;
         let c = colors[i];
-        if c != Color::NONE {
-            if !contains(behind, c) {
-                days += 1;
+        if 64 <= c {
+            if c < Color::NONE {
+                if place == 0 {
+                    return 65;
+                }
+                place -= 1;
+                large[place] = c;
             }
         }
     }
-    days
+    place
 }
 
-// How many different colours there are: 65,535 is none. Linear in the list, whatever its colours are. Colours below 64 take 64 marks; large ones none
-// in a list of at most 64 places, where a search is quicker than clearing marks.
+// How many different colours there are: 65,535 is none. Linear in the list, whatever its colours are. Colours below 64 take 64 marks. At most 64
+// places with larger ones are searched, which is quicker than clearing marks for them.
 pub fn days_of(colors: &[u16]) -> usize
     ensures answer { λ r. ⌜ r ≡ daysOf (now (colors .entry)) ⌝ }
 {
@@ -159,8 +180,10 @@ pub fn days_of(colors: &[u16]) -> usize
     if most <= 64 {
         return count_few(colors, most);
     }
-    if colors.len() <= 64 {
-        return count_searched(colors);
+    let mut large = [0; 64];
+    let place = copy_large(colors, &mut large);
+    if place <= 64 {
+        return count_few(colors, 64) + count_searched(&large[place..]);
     }
     count_many(colors, most)
 }

@@ -1,4 +1,4 @@
--- `count_searched` meets its contract. The invariant: the days of the colours from i on.
+-- `count_searched` meets its contract. The invariant: the different numbers from i on are counted.
 -- The measure: i, which each turn lowers by one.
 use Prim.Native.Nat.{_≤_}
 use mathlib.Core.Path.{_≡_}
@@ -6,45 +6,40 @@ use native.Mathlib.Omega.{arith}
 use lib.ListN.{length, drop}
 use borrow.Author.Tests.{not-true, not-false}
 use borrow.Author.Needs.{needs}
-use Rattle.graph.specs.Color.{daysOf}
-use Rattle.days.proofs.DaysLaws.{days-start, days-passed, days-all, days-behind-none, days-behind-again, days-behind-new}
+use Rattle.lists.specs.Different.{different}
+use Rattle.days.proofs.CountLaws.{searched-start, searched-bound, searched-all, searched-again, searched-new}
 use Rattle.days.proofs.count_searched.Statement.{statement}
 use Rattle.days.proofs.count_searched.Tie as tie
 
 abbrev Inv-loop : tie.InvT-loop
-Inv-loop colors days₀ i₀ days i = (i ≤ length colors) × (days ≡ daysOf (drop i colors))
+Inv-loop numbers count₀ i₀ count i = (i ≤ length numbers) × (count ≡ different (drop i numbers))
 
 abbrev μ-loop : tie.MeasureT-loop
-μ-loop colors days₀ i₀ days i = i
+μ-loop numbers count₀ i₀ count i = i
 
-add-days : tie.Need-add-days Inv-loop μ-loop
-add-days c =
-    let l = c .before .before .before .before .before .before .loop in
-    let colors = c .before .before .before .before .before .before .before .before .args .colors .now in
-    omega (arith, days-passed colors (l .i) (l .days) (l .inv .1))
+add-count : tie.Need-add-count Inv-loop μ-loop
+add-count c =
+    let l = c .before .before .before .before .before .loop in
+    let numbers = c .before .before .before .before .before .before .before .args .numbers .now in
+    omega (arith, searched-bound numbers (l .i) (l .count) (l .inv .1))
 
 loop-again : tie.Need-loop-again Inv-loop μ-loop
 loop-again c =
-    let l = c .before .before .before .before .before .before .loop in
-    (omega arith, days-behind-new _ _ _ (l .inv .1) (omega arith) (l .inv .0) _ (c .before .contains .ensures) (c .before .before .if1 .taken) (not-true _ (c .if2 .taken)))
+    let l = c .before .before .before .before .before .loop in
+    (omega arith, searched-new _ _ _ (l .inv .1) (omega arith) (l .inv .0) _ (c .before .contains .ensures) (not-true _ (c .if1 .taken)))
 
 loop-again-2 : tie.Need-loop-again-2 Inv-loop μ-loop
 loop-again-2 c =
-    let l = c .before .before .before .before .before .before .loop in
-    (omega arith, days-behind-again _ _ _ (l .inv .1) (omega arith) (l .inv .0) _ (c .before .contains .ensures) (not-false _ (c .if2 .left)))
-
-loop-again-3 : tie.Need-loop-again-3 Inv-loop μ-loop
-loop-again-3 c = let l = c .before .before .before .before .loop in (omega arith, days-behind-none _ _ _ (l .inv .1) (omega arith) (l .inv .0) (c .if1 .left))
+    let l = c .before .before .before .before .before .loop in
+    (omega arith, searched-again _ _ _ (l .inv .1) (omega arith) (l .inv .0) _ (c .before .contains .ensures) (not-false _ (c .if1 .left)))
 
 pub count-searched-spec : {M : Type 1} → statement M
 count-searched-spec = tie.close (tie.spec Inv-loop μ-loop
-    (λ c. search (needs, days-start))
+    (λ c. search (needs, searched-start))
     (λ c. search needs) (λ c. search needs) (λ c. search needs) (λ c. search needs) (λ c. search needs) (λ c. search needs) (λ c. search needs) (λ c κs. search needs)
-    add-days
+    add-count
     (λ c. search needs)
     loop-again
     (λ c. search needs)
     loop-again-2
-    (λ c. search needs)
-    loop-again-3
-    (λ c. search (needs, days-all)))
+    (λ c. search (needs, searched-all)))
