@@ -154,7 +154,7 @@ fn days_9_and_0_are_two() {
 /// Days are the different colours, whatever is preset; without presets no colour below them is left out.
 #[test]
 fn greedy_days() {
-    // Every third is preset: not at all, on a few days, on any, and around the numbers at which the counting changes.
+    // Two of three are preset: not at all, on a few days, on any, and around the numbers at which the counting changes.
     const BORDERS: [u16; 8] = [0, 63, 64, 32767, 32768, 32769, 65533, 65534];
     let presets: [fn(usize) -> u16; 4] = [
         |_| NONE,
@@ -165,8 +165,8 @@ fn greedy_days() {
     for (n, ends) in simple_lists() {
         let m = ends.len() / 2;
         for (kind, preset) in presets.iter().enumerate() {
-            let third = |i| if i % 3 == 0 { preset(i) } else { NONE };
-            let presets: Vec<u16> = (0..n.max(m)).map(third).collect();
+            let some = |i| if i % 3 == 0 { NONE } else { preset(i) };
+            let presets: Vec<u16> = (0..n.max(m)).map(some).collect();
             for strategy in STRATEGIES {
                 let (mut nodes, mut edges) = (vec![7; n], vec![7; m]);
                 let answers = [
@@ -510,7 +510,7 @@ fn one_list_twice() {
 fn long_lists() {
     let all: Vec<u16> = (0..NONE).collect();
     let but_one: Vec<u16> = (0..NONE).map(|color| color.max(1)).collect();
-    for m in [2, 64, 65, 128, 129, 4096, 32768, 32769, 65535] {
+    for m in [2, 32, 33, 64, 65, 96, 97, 4096, 32768, 32769, 65535] {
         assert_front(fewer_days(&all, &but_one, m), &but_one, m);
         assert_front(fewer_days(&but_one, &all, m), &but_one, m);
         assert_front(fewer_days(&all, &all.clone(), m), &all, m);
@@ -519,6 +519,10 @@ fn long_lists() {
         assert_front(fewer_days(&falling, &but_one, m), &but_one, m);
         assert_front(fewer_days(&falling, &all, m), &falling, m);
     }
+    // The last colour of the first window, there or not.
+    let without: Vec<u16> = (0..=32769).filter(|&color| color != 32767).collect();
+    assert_front(fewer_days(&all, &without, 32769), &all, 32769);
+    assert_front(fewer_days(&without, &all, 32769), &without, 32769);
     // Ten times each, the last number 65,535 only where it counts.
     let mut often = all.repeat(10);
     let mut fewer = but_one.repeat(10);

@@ -251,14 +251,11 @@ copied-start lo hi colors list = record { inside = omega arith; sized = refl; ro
 
 module _ {lo hi : ℕ} {colors : List ℕ} {size i place : ℕ} {list : List ℕ} (C : Copied lo hi colors size i place list) where
   pub copied-all : i ≤ 0 → drop place list ≡ within lo hi colors
-  copied-all h = let z : i ≡ 0 = omega arith in C .copied ∙ ap (λ (j : ℕ). within lo hi (drop j colors)) z
+  copied-all = drop-none (within lo hi) colors i (drop place list) (C .copied)
 
   module _ (some : 0 < i) where
-    at-back : drop (i - 1) colors ≡ getD colors (i - 1) 0 ∷ drop i colors
-    at-back = drop-back colors i some (C .inside)
-
     left : within lo hi (getD colors (i - 1) 0 ∷ drop i colors) ≡ within lo hi (drop i colors) → Copied lo hi colors size (i - 1) place list
-    left e = record { inside = omega (arith, C .inside); sized = C .sized; room = C .room; copied = C .copied ∙ sym (rw at-back e) }
+    left e = record { inside = omega (arith, C .inside); sized = C .sized; room = C .room; copied = C .copied ∙ sym (rw (drop-back colors i some (C .inside)) e) }
 
     pub copied-low : getD colors (i - 1) 0 < lo → Copied lo hi colors size (i - 1) place list
     copied-low a = left (within-low lo hi _ (drop i colors) a)
@@ -272,7 +269,7 @@ module _ {lo hi : ℕ} {colors : List ℕ} {size i place : ℕ} {list : List ℕ
         inside = omega (arith, C .inside);
         sized = length-set list (place - 1) (getD colors (i - 1) 0) ∙ C .sized;
         room = omega (arith, C .room);
-        copied = rw (at-back, within-in lo hi x (drop i colors) a b) (drop-back (set list (place - 1) x) place h (omega (arith, length-set list (place - 1) x, C .sized, C .room)) ∙ front);
+        copied = rw (drop-back colors i some (C .inside), within-in lo hi x (drop i colors) a b) (drop-back (set list (place - 1) x) place h (omega (arith, length-set list (place - 1) x, C .sized, C .room)) ∙ front);
       }
         where
           x : ℕ

@@ -9,10 +9,10 @@ use lib.ListN.{length, take}
 use lib.Dec.{ltb}
 use borrow.Author.Tests.{lt-ltb, le-ltb, ltb-true, ltb-false, not-true}
 use Rattle.lists.specs.Member.{elem}
-use Rattle.lists.specs.Different.{distinct, different}
 use Rattle.lists.proofs.Tests.{by-test, and-true, or-true, or-false}
 use Rattle.lists.proofs.MemberLaws.{elem-true, elem-false, not-mem-elem}
-use Rattle.graph.specs.Color.{noColor, colorsIn, daysOf}
+use Rattle.graph.specs.Color.{noColor, daysOf}
+use Rattle.days.proofs.DaysLaws.{days-none}
 use Rattle.days.specs.declared.LeadingPart.{LeadingPart}
 use Rattle.days.specs.FewerDays.{secondChosen, fewerDays, AllColored, FewestDays}
 
@@ -34,8 +34,8 @@ module _ (first second : List ℕ) (b : Bool) (e : b ≡ elem noColor second) wh
 
 -- Of nothing the first is chosen.
 chosen-empty : secondChosen [] [] ≡ false
-unfolding secondChosen daysOf colorsIn different distinct elem
-chosen-empty = refl
+unfolding secondChosen elem
+chosen-empty = simp (days-none [] (λ c p. absurd p))
 
 -- ---- how long the part is
 

@@ -72,7 +72,7 @@ fn count_marked(colors: &[u16], from: u16, marks: &mut [bool]) -> usize
     days
 }
 
-// Few colours: all below a small bound.
+// The colours below a small bound.
 fn count_few(colors: &[u16], most: usize) -> usize
     requires { ⌜ most ≤ 64 ⌝ }
     ensures answer { λ r. let colors = now (colors .entry) in ⌜ r ≡ different (within 0 most colors) ⌝ }
@@ -147,11 +147,11 @@ fn count_searched(numbers: &[u16]) -> usize
     count
 }
 
-// The large colours, those from 64 on, in their order, into the back of a list of at most 64 places: from which place on they stand there, 65 if
+// The large colours, those from 64 on, in their order, into the back of a list of at most 32 places: from which place on they stand there, 33 if
 // they are more than the list has places.
 fn copy_large(colors: &[u16], large: &mut [u16]) -> usize
-    requires { ⌜ length (now large) ≤ 64 ⌝ }
-    ensures copied { λ r. let colors = now (colors .entry) in ⌜ (r ≤ 64 → drop r (now (large .exit)) ≡ within 64 noColor colors) ⌝ }
+    requires { ⌜ length (now large) ≤ 32 ⌝ }
+    ensures copied { λ r. let colors = now (colors .entry) in ⌜ (r ≤ 32 → drop r (now (large .exit)) ≡ within 64 noColor colors) ⌝ }
 {
     let mut place = large.len();
     let mut i = colors.len();
@@ -161,7 +161,7 @@ fn copy_large(colors: &[u16], large: &mut [u16]) -> usize
         if 64 <= c {
             if c < Color::NONE {
                 if place == 0 {
-                    return 65;
+                    return 33;
                 }
                 place -= 1;
                 large[place] = c;
@@ -171,7 +171,7 @@ fn copy_large(colors: &[u16], large: &mut [u16]) -> usize
     place
 }
 
-// How many different colours there are: 65,535 is none. Linear in the list, whatever its colours are. Colours below 64 take 64 marks. At most 64
+// How many different colours there are: 65,535 is none. Linear in the list, whatever its colours are. Colours below 64 take 64 marks. At most 32
 // places with larger ones are searched, which is quicker than clearing marks for them.
 pub fn days_of(colors: &[u16]) -> usize
     ensures answer { λ r. ⌜ r ≡ daysOf (now (colors .entry)) ⌝ }
@@ -180,9 +180,9 @@ pub fn days_of(colors: &[u16]) -> usize
     if most <= 64 {
         return count_few(colors, most);
     }
-    let mut large = [0; 64];
+    let mut large = [0; 32];
     let place = copy_large(colors, &mut large);
-    if place <= 64 {
+    if place <= 32 {
         return count_few(colors, 64) + count_searched(&large[place..]);
     }
     count_many(colors, most)

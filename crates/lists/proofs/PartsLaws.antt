@@ -102,5 +102,5 @@ pub drop-back : (l : List ℕ) (i : ℕ) → 0 < i → i ≤ length l → drop (
 drop-back l i h k = let e : suc (i - 1) ≡ i = omega arith in drop-cons l (i - 1) 0 (omega arith) ∙ ap (λ (j : ℕ). getD l (i - 1) 0 ∷ drop j l) e
 
 -- What holds of the list from place k on, at the front, holds of the list.
-pub drop-none : (F : List ℕ → ℕ) (l : List ℕ) (k x : ℕ) → x ≡ F (drop k l) → k ≤ 0 → x ≡ F l
+pub drop-none : {A : Type 0} (F : List ℕ → A) (l : List ℕ) (k : ℕ) (x : A) → x ≡ F (drop k l) → k ≤ 0 → x ≡ F l
 drop-none F l k x e h = let z : k ≡ 0 = omega arith in e ∙ ap (λ (j : ℕ). F (drop j l)) z

@@ -127,8 +127,8 @@ module _ (n : ℕ) (ends lent : List ℕ) where
   colors-below : Admitted n ends → length lent ≡ edgeCount ends → (k : ℕ) → k < edgeCount ends → colorOf (misraGries n ends lent .colors) k ≤ 4096
   colors-below a l k h = omega (arith, demand3 n ends lent a l .accurate .range k h, max-degree-bound ends (edgeCount ends) n, a .edges)
 
-  days-below : Admitted n ends → daysOf (take (edgeCount ends) (held n ends (edgeCount ends))) ≤ 4096
-  days-below a =
+  days-small : Admitted n ends → daysOf (take (edgeCount ends) (held n ends (edgeCount ends))) ≤ 4096
+  days-small a =
       let m = edgeCount ends in
       let l = held n ends m in
       omega (arith, days-at-most (take m l), length-take-bound m l, a .edges)
@@ -139,7 +139,7 @@ module _ (n : ℕ) (ends lent : List ℕ) where
     | inl e ↦
         let p = passed-admitted n ends lent e in
         let a = p .0 in
-        rw (accepts e) (days-length ends (misraGries n ends lent .colors) _ (omega (arith, days-below a)) (a .edges)
+        rw (accepts e) (days-length ends (misraGries n ends lent .colors) _ (omega (arith, days-small a)) (a .edges)
         (record {
           number = omega (arith, a .edges);
           inside = λ k h. let b = a .inside k h in (omega (arith, b .0, a .nodes), omega (arith, b .1, a .nodes));

@@ -35,11 +35,11 @@ tally-same a b p q = ap₂ {C = Tally} (λ (x y : ℕ). record { edges = x; grea
 
 -- ---- the greatest colour of a list
 
--- An uncoloured place does not count, a coloured one does.
 pub greatest-none : greatestColor [] ≡ 0
 unfolding greatestColor
 greatest-none = refl
 
+-- An uncoloured place does not count, a coloured one does.
 pub greatest-uncolored : (c : ℕ) (cs : List ℕ) → c ≡ noColor → greatestColor (c ∷ cs) ≡ greatestColor cs
 unfolding greatestColor
 greatest-uncolored c cs e = by-test (ltb (greatestColor cs) c) (λ t. simp (t, eq-eqb c noColor e)) (λ t. simp t)

@@ -14,14 +14,14 @@ add-result : tie.Need-add-result
 add-result c =
     let at-copy = c .before .before .before .before .before .before in
     let colors = at-copy .before .before .before .before .before .args .colors .now in
-    let large = copied-counted 64 noColor 64 (at-copy .copy-large .result) _ colors (at-copy .copy-large .last .1 .0) (at-copy .copy-large .kept .1 .0) (at-copy .copy-large .ensures (c .before .before .before .before .if2 .taken)) (c .count-searched .ensures) in
+    let large = copied-counted 64 noColor 32 (at-copy .copy-large .result) _ colors (at-copy .copy-large .last .1 .0) (at-copy .copy-large .kept .1 .0) (at-copy .copy-large .ensures (c .before .before .before .before .if2 .taken)) (c .count-searched .ensures) in
     omega (arith, c .before .before .before .count-few2 .ensures, large, within-bound 0 64 colors, within-bound 64 noColor colors)
 
 returns-2 : tie.Need-returns-2
 returns-2 c =
     let at-copy = c .before .before .before .before .before .before in
     let colors = at-copy .before .before .before .before .before .args .colors .now in
-    let large = copied-counted 64 noColor 64 (at-copy .copy-large .result) _ colors (at-copy .copy-large .last .1 .0) (at-copy .copy-large .kept .1 .0) (at-copy .copy-large .ensures (c .before .before .before .before .if2 .taken)) (c .count-searched .ensures) in
+    let large = copied-counted 64 noColor 32 (at-copy .copy-large .result) _ colors (at-copy .copy-large .last .1 .0) (at-copy .copy-large .kept .1 .0) (at-copy .copy-large .ensures (c .before .before .before .before .if2 .taken)) (c .count-searched .ensures) in
     omega (arith, c .before .before .before .count-few2 .ensures, large, parted-days 64 _ colors (omega arith) (at-copy .before .before .before .most-days .ensures))
 
 returns-3 : tie.Need-returns-3
