@@ -15,7 +15,10 @@ fn main() -> Result<(), Box<dyn Error>> {
     println!("greedy: {days} days");
     let days = misra_gries_edge_color(nodes, &ends, &mut misra_gries)?;
     println!("Misra and Gries: {days} days");
-    for (pair, day) in ends.chunks(2).zip(fewer_days(&greedy, &misra_gries, matches)) {
+    for (pair, day) in ends
+        .chunks(2)
+        .zip(fewer_days(&greedy, &misra_gries, matches))
+    {
         println!("{}-{}: day {day}", pair[0], pair[1]);
     }
     Ok(())

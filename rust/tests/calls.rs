@@ -155,12 +155,12 @@ fn days_9_and_0_are_two() {
 #[test]
 fn greedy_days() {
     // Two of three are preset: not at all, on a few days, on any, and around the numbers at which the counting changes.
-    const BORDERS: [u16; 8] = [0, 63, 64, 32767, 32768, 32769, 65533, 65534];
+    const BORDERS: [u16; 10] = [0, 63, 64, 4095, 4096, 32767, 32768, 32769, 65533, 65534];
     let presets: [fn(usize) -> u16; 4] = [
         |_| NONE,
         |i| (i * 7 % 64) as u16,
         |i| (i * 7919 % 65535) as u16,
-        |i| BORDERS[i % 8],
+        |i| BORDERS[i % 10],
     ];
     for (n, ends) in simple_lists() {
         let m = ends.len() / 2;
@@ -510,7 +510,7 @@ fn one_list_twice() {
 fn long_lists() {
     let all: Vec<u16> = (0..NONE).collect();
     let but_one: Vec<u16> = (0..NONE).map(|color| color.max(1)).collect();
-    for m in [2, 32, 33, 64, 65, 96, 97, 4096, 32768, 32769, 65535] {
+    for m in [2, 64, 65, 4096, 4097, 4160, 4161, 32768, 32769, 65535] {
         assert_front(fewer_days(&all, &but_one, m), &but_one, m);
         assert_front(fewer_days(&but_one, &all, m), &but_one, m);
         assert_front(fewer_days(&all, &all.clone(), m), &all, m);
@@ -546,13 +546,13 @@ fn scattered_lists() {
     };
     let mut chosen = [0; 3];
     for round in 0..20_000 {
-        let most = [8, 64, 65, 32768, 32769, 65535][round % 6];
+        let most = [8, 64, 65, 4096, 32768, 32769, 65535][round % 7];
         let mut list = || -> Vec<u16> {
             let from = random(65536 - most);
             let mut days = vec![0; 1 + random(20)];
             let small = round % 5;
             days.fill_with(|| match random(4) < small {
-                true => random(64) as u16,
+                true => random(4096) as u16,
                 false => (from + random(most)) as u16,
             });
             if random(4) == 0 {

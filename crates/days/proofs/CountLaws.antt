@@ -316,6 +316,9 @@ front-clear size k h i = elim (decLt i k) [
 pub front-counted : (size k from r : ℕ) (cs : List ℕ) → k ≤ size → r ≡ different (within from (from + length (take k (replicate size false))) cs) → r ≡ different (within from (from + k) cs)
 front-counted size k from r cs h e = e ∙ ap (λ (l : ℕ). different (within from (from + l) cs)) (front-length size k h)
 
+pub front-below : (size k r : ℕ) (cs : List ℕ) → k ≤ size → r ≡ different (within 0 (0 + length (take k (replicate size false))) cs) → r ≡ different (within 0 k cs)
+front-below size k r cs h e = let z : 0 + k ≡ k = omega arith in front-counted size k 0 r cs h e ∙ ap (λ (b : ℕ). different (within 0 b cs)) z
+
 -- ---- windows one after the other, each from the next number on
 
 pub window-none : (cs : List ℕ) → 0 ≡ different (within 0 0 cs)

@@ -72,12 +72,21 @@ fn count_marked(colors: &[u16], from: u16, marks: &mut [bool]) -> usize
     days
 }
 
-// The colours below a small bound.
+// The colours below a bound of at most 64.
 fn count_few(colors: &[u16], most: usize) -> usize
     requires { ⌜ most ≤ 64 ⌝ }
     ensures answer { λ r. let colors = now (colors .entry) in ⌜ r ≡ different (within 0 most colors) ⌝ }
 {
     let mut marks = [false; 64];
+    count_marked(colors, 0, &mut marks[..most])
+}
+
+// Those below a bound of at most 4,096, as all colours of a graph without presets are.
+fn count_small(colors: &[u16], most: usize) -> usize
+    requires { ⌜ most ≤ 4096 ⌝ }
+    ensures answer { λ r. let colors = now (colors .entry) in ⌜ r ≡ different (within 0 most colors) ⌝ }
+{
+    let mut marks = [false; 4096];
     count_marked(colors, 0, &mut marks[..most])
 }
 
@@ -147,21 +156,21 @@ fn count_searched(numbers: &[u16]) -> usize
     count
 }
 
-// The large colours, those from 64 on, in their order, into the back of a list of at most 32 places: from which place on they stand there, 33 if
-// they are more than the list has places.
+// The large colours, those from 4,096 on, in their order, into the back of a list of at most 64 places: from which place on they stand there,
+// 65 if they are more than the list has places.
 fn copy_large(colors: &[u16], large: &mut [u16]) -> usize
-    requires { ⌜ length (now large) ≤ 32 ⌝ }
-    ensures copied { λ r. let colors = now (colors .entry) in ⌜ (r ≤ 32 → drop r (now (large .exit)) ≡ within 64 noColor colors) ⌝ }
+    requires { ⌜ length (now large) ≤ 64 ⌝ }
+    ensures copied { λ r. let colors = now (colors .entry) in ⌜ (r ≤ 64 → drop r (now (large .exit)) ≡ within 4096 noColor colors) ⌝ }
 {
     let mut place = large.len();
     let mut i = colors.len();
     while 0 < i {
         i -= 1;
         let c = colors[i];
-        if 64 <= c {
+        if 4096 <= c {
             if c < Color::NONE {
                 if place == 0 {
-                    return 33;
+                    return 65;
                 }
                 place -= 1;
                 large[place] = c;
@@ -171,8 +180,8 @@ fn copy_large(colors: &[u16], large: &mut [u16]) -> usize
     place
 }
 
-// How many different colours there are: 65,535 is none. Linear in the list, whatever its colours are. Colours below 64 take 64 marks. At most 32
-// places with larger ones are searched, which is quicker than clearing marks for them.
+// How many different colours there are: 65,535 is none. Linear in the list, whatever its colours are. Few marks are cleared where the colours
+// are small, and none for large ones in at most 64 places: these are searched.
 pub fn days_of(colors: &[u16]) -> usize
     ensures answer { λ r. ⌜ r ≡ daysOf (now (colors .entry)) ⌝ }
 {
@@ -180,10 +189,13 @@ pub fn days_of(colors: &[u16]) -> usize
     if most <= 64 {
         return count_few(colors, most);
     }
-    let mut large = [0; 32];
+    if most <= 4096 {
+        return count_small(colors, most);
+    }
+    let mut large = [0; 64];
     let place = copy_large(colors, &mut large);
-    if place <= 32 {
-        return count_few(colors, 64) + count_searched(&large[place..]);
+    if place <= 64 {
+        return count_small(colors, 4096) + count_searched(&large[place..]);
     }
     count_many(colors, most)
 }

@@ -111,7 +111,7 @@ pub fn renamed(random: &mut Random, colors: &[u16], greatest: u16) -> Vec<u16> {
 
 /// How many colours a random list chooses from: few, all, and about the numbers at which the port counts otherwise.
 const COLOR_COUNTS: [usize; 14] = [
-    1, 2, 5, 63, 64, 65, 66, 96, 97, 98, 32767, 32768, 32769, 65535,
+    1, 2, 5, 63, 64, 65, 66, 4095, 4096, 4097, 32767, 32768, 32769, 65535,
 ];
 
 /// So many colours, from 0 on or from anywhere. At times one is missing.

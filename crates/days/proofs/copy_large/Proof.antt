@@ -9,7 +9,7 @@ use Rattle.days.proofs.copy_large.Statement.{statement}
 use Rattle.days.proofs.copy_large.Tie as tie
 
 abbrev Inv-loop : tie.InvT-loop
-Inv-loop colors large₀ place₀ i₀ large place i = Copied 64 noColor colors (length large₀) i place large
+Inv-loop colors large₀ place₀ i₀ large place i = Copied 4096 noColor colors (length large₀) i place large
 
 abbrev μ-loop : tie.MeasureT-loop
 μ-loop colors large₀ place₀ i₀ large place i = i
