@@ -54,7 +54,7 @@ module _ (first second : List ℕ) (m : ℕ) where
     part-chosen h b e = rw e (simp (le-ltb (length first) m k, le-ltb (length second) m h))
 
   -- It stands in both lists.
-  pub part-inside : (fewerDays first second m .length ≤ length first) × (fewerDays first second m .length ≤ length second)
+  part-inside : (fewerDays first second m .length ≤ length first) × (fewerDays first second m .length ≤ length second)
   unfolding fewerDays
   part-inside = by-test (ltb (length first) m)
       (λ t. simp t (omega arith, omega arith))

@@ -180,8 +180,8 @@ fn copy_large(colors: &[u16], large: &mut [u16]) -> usize
     place
 }
 
-// How many different colours there are: 65,535 is none. Linear in the list, whatever its colours are. Few marks are cleared where the colours
-// are small, and none for large ones in at most 64 places: these are searched.
+// How many different colours there are: 65,535 is none. Linear in the list, whatever its colours are. At most 4,096 marks are cleared where
+// the colours are small, and none for large ones in at most 64 places: these are searched.
 pub fn days_of(colors: &[u16]) -> usize
     ensures answer { λ r. ⌜ r ≡ daysOf (now (colors .entry)) ⌝ }
 {
