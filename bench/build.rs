@@ -12,6 +12,8 @@ fn run(command: &mut Command) {
 
 fn main() {
     println!("cargo:rerun-if-changed=src/native.cpp");
+    println!("cargo:rerun-if-env-changed=BENCH_PLACE");
+    let place = std::env::var("BENCH_PLACE").unwrap_or("0".to_string());
     let folder = std::env::var("OUT_DIR").unwrap();
     let object = Path::new(&folder).join("native.o");
     // -O3 and no assertions, as cargo's release has it.
@@ -20,6 +22,7 @@ fn main() {
             "-std=c++17",
             "-O3",
             "-DNDEBUG",
+            &format!("-DPLACE={place}"),
             "-c",
             "src/native.cpp",
             "-o",

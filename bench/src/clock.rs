@@ -1,14 +1,19 @@
-//! Times by the clock: medians of samples that are taken in turn, so that a change of the machine's load meets all alike.
+//! Times by the clock: medians of samples that are taken in turn, so that a change of the machine's load meets all alike. A program
+//! prints them for one place of the port in the program, and the tables are read from what several programs printed.
 
+use std::collections::HashMap;
+use std::fs;
+use std::path::Path;
 use std::time::Instant;
 
+use crate::count::label;
 use crate::graphs::Graph;
 use crate::rows::{verify, Entrant};
 use crate::subjects::Subject;
 
 /// A sample repeats a short call until it lasts about this long, in seconds.
 const SAMPLE: f64 = 0.005;
-const SAMPLES: usize = 21;
+const SAMPLES: usize = 11;
 
 /// Seconds for each of a number of calls.
 fn seconds(subject: &mut dyn Subject, times: usize) -> f64 {
@@ -57,8 +62,8 @@ impl Plan {
     }
 }
 
-/// The median of each entrant in microseconds; each answer is verified after each sample.
-pub fn medians(graph: &Graph, entrants: &mut [Entrant]) -> Vec<f64> {
+/// Prints the median of each entrant in microseconds; each answer is verified after each sample.
+pub fn print(title: &str, graph: &Graph, entrants: &mut [Entrant]) {
     let mut plans: Vec<Plan> = Vec::new();
     for entrant in entrants.iter_mut() {
         plans.push(Plan::new(&mut *entrant.subject));
@@ -73,5 +78,26 @@ pub fn medians(graph: &Graph, entrants: &mut [Entrant]) -> Vec<f64> {
             }
         }
     }
-    plans.iter_mut().map(|plan| plan.median() * 1e6).collect()
+    for (entrant, plan) in entrants.iter().zip(&mut plans) {
+        let median = plan.median() * 1e6;
+        println!("{}\t{median}", label(title, graph, entrant.name));
+    }
+}
+
+/// The means of what the programs printed, a file of the folder each, by label.
+pub fn read_means(folder: &Path) -> HashMap<String, f64> {
+    let mut taken: HashMap<String, Vec<f64>> = HashMap::new();
+    for file in fs::read_dir(folder).expect("the folder of the times") {
+        let text = fs::read_to_string(file.expect("a file").path()).expect("a file's text");
+        for line in text.lines() {
+            let (label, median) = line.split_once('\t').expect("a label and a time");
+            let median = median.parse().expect("a number");
+            taken.entry(label.to_string()).or_default().push(median);
+        }
+    }
+    let mean = |times: Vec<f64>| times.iter().sum::<f64>() / times.len() as f64;
+    taken
+        .into_iter()
+        .map(|(label, times)| (label, mean(times)))
+        .collect()
 }

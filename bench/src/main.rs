@@ -1,6 +1,7 @@
 //! Measures the port beside the Rust and Boost, and prints tables in Markdown. README.md says how to read them.
 //!
-//!     bench time TEXT            times by the clock
+//!     bench time TEXT            a line with the time by the clock for each measured call
+//!     bench times FOLDER TEXT    the tables of the lines in the folder's files, a program's each
 //!     bench dump TEXT            one dump for each measured call, under callgrind only
 //!     bench counts FOLDER TEXT   the tables of the dumps in the folder
 //!
@@ -71,16 +72,29 @@ fn tables(text: &str) -> Vec<(&'static str, Call, Vec<Graph>)> {
     CALLS.into_iter().map(table).collect()
 }
 
-fn time_tables(text: &str) {
+fn time_all(text: &str) {
+    for (title, call, graphs) in tables(text) {
+        for graph in graphs {
+            clock::print(title, &graph, &mut entrants(&graph, call));
+        }
+    }
+}
+
+fn time_tables(folder: &Path, text: &str) {
+    let means = clock::read_means(folder);
     for (title, call, graphs) in tables(text) {
         for (i, graph) in graphs.iter().enumerate() {
-            let mut entrants = entrants(graph, call);
+            let entrants = entrants(graph, call);
             if i == 0 {
                 header(title, &entrants, ", µs", "");
             }
-            let times = clock::medians(graph, &mut entrants);
-            let times: Vec<Measure> = times.into_iter().map(Some).collect();
-            row(graph, &times, 1, None);
+            let mean = |e: &Entrant| means.get(&count::label(title, graph, e.name)).copied();
+            row(
+                graph,
+                &entrants.iter().map(mean).collect::<Vec<Measure>>(),
+                1,
+                None,
+            );
         }
     }
 }
@@ -127,9 +141,10 @@ fn on_one_thread(run: impl FnOnce() + Send) {
 fn main() {
     let arguments: Vec<String> = std::env::args().skip(1).collect();
     match arguments.iter().map(String::as_str).collect::<Vec<_>>()[..] {
-        ["time", text] => time_tables(text),
+        ["time", text] => time_all(text),
+        ["times", folder, text] => time_tables(Path::new(folder), text),
         ["dump", text] => on_one_thread(|| dump_all(text)),
         ["counts", folder, text] => count_tables(Path::new(folder), text),
-        _ => panic!("bench time TEXT | bench dump TEXT | bench counts FOLDER TEXT"),
+        _ => panic!("bench time TEXT | times FOLDER TEXT | dump TEXT | counts FOLDER TEXT"),
     }
 }

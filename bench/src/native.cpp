@@ -6,6 +6,11 @@
 #include <boost/graph/edge_coloring.hpp>
 #include <valgrind/callgrind.h>
 
+// So many bytes before the port, which is linked behind this: they decide where in a cache line its loops stand.
+#define TEXT_OF(number) #number
+#define BYTES(number) ".pushsection .text.place,\"axR\",@progbits\n.skip " TEXT_OF(number) "\n.popsection"
+asm(BYTES(PLACE));
+
 using Graph = boost::adjacency_list<boost::vecS, boost::vecS, boost::undirectedS, boost::no_property, std::size_t>;
 
 // Edge list to colours: the graph is built here, so that it is counted.
