@@ -1,4 +1,4 @@
-//! Builds what is in C++: Boost's edge colouring, and the requests to callgrind.
+//! Builds what is in C++: Boost's edge colouring, the requests to callgrind, and BENCH_PLACE bytes before the port.
 
 use std::path::Path;
 use std::process::Command;

@@ -87,7 +87,9 @@ pub fn print(title: &str, graph: &Graph, entrants: &mut [Entrant]) {
 /// The means of what the programs printed, a file of the folder each, by label.
 pub fn read_means(folder: &Path) -> HashMap<String, f64> {
     let mut taken: HashMap<String, Vec<f64>> = HashMap::new();
+    let mut programs = 0;
     for file in fs::read_dir(folder).expect("the folder of the times") {
+        programs += 1;
         let text = fs::read_to_string(file.expect("a file").path()).expect("a file's text");
         for line in text.lines() {
             let (label, median) = line.split_once('\t').expect("a label and a time");
@@ -95,7 +97,10 @@ pub fn read_means(folder: &Path) -> HashMap<String, f64> {
             taken.entry(label.to_string()).or_default().push(median);
         }
     }
-    let mean = |times: Vec<f64>| times.iter().sum::<f64>() / times.len() as f64;
+    let mean = |times: Vec<f64>| {
+        assert_eq!(times.len(), programs, "a time from each program");
+        times.iter().sum::<f64>() / times.len() as f64
+    };
     taken
         .into_iter()
         .map(|(label, times)| (label, mean(times)))

@@ -13,7 +13,7 @@ extern "C" {
     fn bench_count_to_here(label: *const c_char);
 }
 
-/// What a dump says that it counted.
+/// What a dump or a time is of.
 pub fn label(title: &str, graph: &Graph, entrant: &str) -> String {
     format!("{title} | {} | {entrant}", graph.name)
 }

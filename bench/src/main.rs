@@ -1,7 +1,7 @@
 //! Measures the port beside the Rust and Boost, and prints tables in Markdown. README.md says how to read them.
 //!
 //!     bench time TEXT            a line with the time by the clock for each measured call
-//!     bench times FOLDER TEXT    the tables of the lines in the folder's files, a program's each
+//!     bench times FOLDER TEXT    the tables of the lines in the folder, one file for each program
 //!     bench dump TEXT            one dump for each measured call, under callgrind only
 //!     bench counts FOLDER TEXT   the tables of the dumps in the folder
 //!

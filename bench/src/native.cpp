@@ -6,7 +6,8 @@
 #include <boost/graph/edge_coloring.hpp>
 #include <valgrind/callgrind.h>
 
-// So many bytes before the port, which is linked behind this: they decide where in a cache line its loops stand.
+// So many bytes before the port, which is linked behind this: they decide where in a cache line its loops stand. R keeps them, though
+// nothing refers to them.
 #define TEXT_OF(number) #number
 #define BYTES(number) ".pushsection .text.place,\"axR\",@progbits\n.skip " TEXT_OF(number) "\n.popsection"
 asm(BYTES(PLACE));

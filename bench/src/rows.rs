@@ -6,7 +6,7 @@ use wulgranite::ColoringStrategy::{Degree, IndependentSet, Saturation};
 use wulgranite::NONE;
 
 use crate::graphs::{double_edges, simple_graphs, Graph};
-use crate::subjects::{Answer, Boost, Call, Port, Rust, Subject, FewerDays};
+use crate::subjects::{Answer, Boost, Call, FewerDays, Port, Rust, Subject};
 
 /// How an answer is held against the port's.
 #[derive(Clone, Copy, PartialEq)]
