@@ -1,4 +1,4 @@
-// Boost.Graph's edge colouring, and the requests to callgrind, which are macros of its header.
+// Boost.Graph's edge colouring, the requests to callgrind, which are macros of its header, and bytes before the port.
 #include <cstddef>
 #include <cstdint>
 
