@@ -1,5 +1,7 @@
 // How an answer is handed to C: a number, 0 where the call accepted, and the report behind a pointer, which is unchanged on a refusal.
 // The strategies by number, too.
+#![tactic(auto)]
+
 ghost use Rattle.graph.specs.Report.{report_of_incidence, report_of_coloring};
 ghost use Rattle.line_graph.specs.LineReport.{report_of_line_list};
 ghost use Rattle.graph_file.specs.Report.{report_of_file};

@@ -1,4 +1,6 @@
 // What each of the four callers relies on, as functions over the public calls, proved from the calls' contracts alone.
+#![tactic(auto)]
+
 mod date_table;
 mod holiday_lookup;
 mod page_grid;

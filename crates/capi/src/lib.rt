@@ -1,5 +1,7 @@
 // The C interface. Each call answers 0 where it accepted, or the refusal's number, and hands its report back through a pointer,
 // which is unchanged on a refusal; wg_fewer_days, which refuses nothing, answers which list. include/wulgranite.h declares these functions for C.
+#![tactic(auto)]
+
 ghost use Rattle.std.specs.Prelude.{ℕ, ◌≡◌, cond, List};
 ghost use Rattle.graph.specs.Table.{incidence_of};
 ghost use Rattle.two_color.specs.TwoColor.{two_color};

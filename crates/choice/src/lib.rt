@@ -1,4 +1,6 @@
 // The choice of the next item of Saturation, by the two counts of each item.
+#![tactic(auto)]
+
 ghost use Rattle.std.specs.Prelude.{◌≡◌, ℕ, ◌≤◌, length, get_or};
 ghost use Rattle.choice.specs.Choice.{greatest_below, count_with, option_of, choice_of};
 

@@ -1,5 +1,7 @@
 // The items to which a colour is not new: it stands at one of their nodes. Of the items only those around the one that takes the
 // colour are marked, and each node is asked once.
+#![tactic(auto)]
+
 ghost use Rattle.std.specs.Prelude.{◌≡◌};
 ghost use Rattle.lists.specs.Member.{elem};
 ghost use Rattle.graph.specs.Stretch.{stretch};

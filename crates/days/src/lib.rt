@@ -1,4 +1,6 @@
 // Days: how many different colours a list has, and which of two lists has fewer.
+#![tactic(auto)]
+
 ghost use Rattle.std.specs.Prelude.{◌≡◌, ◌≢◌, false, cond, ℕ, ◌+◌, ◌≤◌, ◌<◌, length, get_or, take, drop};
 ghost use Rattle.lists.specs.Member.{Mem, elem};
 ghost use Rattle.lists.specs.Different.{different};

@@ -1,5 +1,7 @@
 // Greedy colouring by falling degree, of a graph's nodes or of its edges: the strategy over the graph or over its line graph, which is
 // never stored. Once the table is made, the number of nodes is passed on for the contracts alone, which speak of the definition's neighbours.
+#![tactic(auto)]
+
 ghost use Rattle.std.specs.Prelude.{◌≡◌, ℕ, ◌≤◌, ◌<◌, length, get_or};
 ghost use Rattle.graph.specs.Report.{report_of_coloring};
 ghost use Rattle.graph.specs.Check.{Passed};

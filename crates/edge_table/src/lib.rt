@@ -1,5 +1,7 @@
 // The edge table: beside a working list of colours, the edge of each colour at each node. Every function is total: what lies
 // outside a slice reads as its default.
+#![tactic(auto)]
+
 use graph::EdgeIndex;
 
 mod lookup;

@@ -1,4 +1,6 @@
 // One node's edges in the table, an edge's ends, and the walk over a node's edges.
+#![tactic(auto)]
+
 ghost use Rattle.std.specs.Prelude.{◌≡◌, ◌+◌, ◌*◌, get_or};
 ghost use Rattle.graph.specs.Edges.{far_end};
 ghost use Rattle.graph.specs.Stretch.{bounds, stretch};

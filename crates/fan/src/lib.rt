@@ -1,5 +1,7 @@
 // The fan of a Misra-Gries step: which edge joins it next, and its places up to w. Every function is total: what lies outside a slice
 // reads as its default, and what has no room is not written.
+#![tactic(auto)]
+
 mod candidates;
 mod places;
 

@@ -1,4 +1,6 @@
 // Which fields stand in a graph file, and the numbers in them.
+#![tactic(auto)]
+
 mod fields;
 mod layout;
 mod numbers;

@@ -1,4 +1,6 @@
 // Graphs as a node count and a list of ends: the checks, colours.
+#![tactic(auto)]
+
 ghost use Rattle.std.specs.Prelude.{◌≡◌};
 ghost use Rattle.graph.specs.Report.{number};
 

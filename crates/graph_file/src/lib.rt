@@ -1,4 +1,6 @@
 // Reading a graph file.
+#![tactic(auto)]
+
 ghost use Rattle.std.specs.Prelude.{◌≡◌, ◌+◌, ◌*◌, ◌≤◌, cond, ltb};
 ghost use Rattle.file_layout.specs.Outcomes.{read_file};
 ghost use Rattle.file_layout.specs.Reliance.{FileReader};

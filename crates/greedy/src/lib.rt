@@ -1,4 +1,6 @@
 // Greedy colouring: the strategies, and the checks of node and edge colouring.
+#![tactic(auto)]
+
 ghost use Rattle.std.specs.Prelude.{◌≡◌};
 ghost use Rattle.graph.specs.Report.{report_of_checked};
 ghost use Rattle.greedy.specs.Call.{check_items, check_nodes, check_edges};

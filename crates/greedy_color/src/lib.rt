@@ -1,4 +1,6 @@
 // Greedy colouring: the three public calls for nodes, and the calls for edges.
+#![tactic(auto)]
+
 ghost use Rattle.std.specs.Prelude.{◌≡◌, [], length};
 ghost use Rattle.graph.specs.Report.{report_of_coloring, Accepted};
 ghost use Rattle.graph.specs.Check.{Passed};

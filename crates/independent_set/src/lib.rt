@@ -1,4 +1,6 @@
 // Greedy colouring by independent sets, of nodes and of edges.
+#![tactic(auto)]
+
 ghost use Rattle.std.specs.Prelude.{◌≡◌, length};
 ghost use Rattle.graph.specs.Check.{Passed};
 ghost use Rattle.graph.specs.Report.{report_of_coloring};

@@ -1,5 +1,7 @@
 // What is coloured: the nodes of a graph, or its edges. A node's neighbours lie across its edges; an edge's are the other edges at its ends.
 // An item is a node of the graph that is coloured: of the graph itself, or of its line graph, whose nodes are the edges.
+#![tactic(auto)]
+
 ghost use Rattle.std.specs.Prelude.{◌≡◌};
 ghost use Rattle.graph.specs.Report.{report_of_checked};
 ghost use Rattle.greedy.specs.Call.{check_items};

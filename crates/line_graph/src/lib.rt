@@ -1,4 +1,6 @@
 // The line list of a graph: its edges as nodes, and a pair for each two edges at a node.
+#![tactic(auto)]
+
 ghost use Rattle.std.specs.Prelude.{◌≡◌, ◌≤◌, ◌<◌, length};
 ghost use Rattle.graph.specs.Check.{Passed};
 ghost use Rattle.graph.specs.Stretch.{Table};

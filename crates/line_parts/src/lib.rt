@@ -1,5 +1,7 @@
 // Of the line list, the part of an edge's neighbours that lie at one of its ends, after the edge or before it: those after it at the
 // higher end, then at the lower, then those before it, the same way. A loop has one end only.
+#![tactic(auto)]
+
 ghost use Rattle.std.specs.Prelude.{◌≡◌, ◌+◌, ◌*◌};
 ghost use Rattle.graph.specs.Stretch.{stretch};
 ghost use Rattle.line_list.specs.LineNeighbors.{higher_end, lower_end};

@@ -1,4 +1,6 @@
 // The text that the program prints for a graph and for a file.
+#![tactic(auto)]
+
 ghost use Rattle.std.specs.Prelude.{◌≡◌, ◌/◌, min, length};
 ghost use Rattle.lists.specs.Parts.{copied_over};
 ghost use Rattle.vizing.specs.MisraGries.{misra_gries};

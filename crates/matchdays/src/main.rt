@@ -1,5 +1,7 @@
 // Prints the match days of the file on standard input. What is printed is `matchday_text`'s promise; here bytes are only
 // read and written.
+#![tactic(auto)]
+
 ghost use Rattle.std.specs.Prelude.{◌≡◌, ◌≤◌, ◌<◌, length, take};
 ghost use Rattle.file_layout.specs.Reliance.{most_bytes};
 ghost use Rattle.matchday_text.specs.Text.{file_text};

@@ -1,4 +1,6 @@
 // Misra-Gries edge colouring: each edge a colour from 0 to D, edges that share an end different ones. All edges, or one more.
+#![tactic(auto)]
+
 ghost use Rattle.std.specs.Prelude.{◌≡◌, ◌≤◌, length};
 ghost use Rattle.graph.specs.Report.{report_of_coloring};
 ghost use Rattle.graph.specs.Edges.{edge_count};

@@ -1,5 +1,7 @@
 // What a Misra-Gries step recolours: the path, and the new colours of path and fan. Every function is total: what lies outside a slice
 // reads as its default, and what has no room is not written.
+#![tactic(auto)]
+
 mod new_colors;
 mod path;
 

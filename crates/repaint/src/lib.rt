@@ -1,5 +1,7 @@
 // Edges lose and take colours, in the working list and in the edge table alike. Every function is total: what lies outside a slice
 // reads as its default and takes no store.
+#![tactic(auto)]
+
 ghost use Rattle.std.specs.Prelude.{◌≡◌, set};
 ghost use Rattle.repaint.specs.Repaint.{entered, entered_at_ends, state, uncolored, colored, all_uncolored, all_colored, repainted};
 

@@ -1,4 +1,6 @@
 // Runs the cases of standard input, a line each, and prints what each call answered.
+#![tactic(auto)]
+
 mod calls;
 
 use crate::calls::call;

@@ -1,6 +1,8 @@
 // The calls of the program `replay` but for the colourings with more than two colours: the table of incidences, a node's edges, two_color,
 // the line list, the list with fewer days, the files. Each lends so much of its slices as its line says, calls, and prints the answer. Part
 // of a test program; the functions promise nothing but to end.
+#![tactic(auto)]
+
 use crate::report::{
     put_coloring, put_file, put_incidence, put_leading_part, put_line_list, put_walk, put_written,
 };

@@ -1,5 +1,7 @@
 // The reading side of the program `replay`: the lines of standard input, a name and numbers each. Part of a test program; its
 // contracts say what its own proofs need.
+#![tactic(auto)]
+
 mod cursor;
 mod input;
 mod lines;

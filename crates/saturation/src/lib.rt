@@ -1,4 +1,6 @@
 // Greedy colouring by saturation, of nodes or of edges. The two counts that decide which item is next are kept up to date from turn to turn.
+#![tactic(auto)]
+
 ghost use Rattle.std.specs.Prelude.{◌≡◌, length};
 ghost use Rattle.graph.specs.Report.{report_of_coloring};
 ghost use Rattle.graph.specs.Check.{Passed};

@@ -1,4 +1,6 @@
 // The smallest free colour of a node and of an edge, by marks: one pass over the neighbours' colours, one over the marks.
+#![tactic(auto)]
+
 ghost use Rattle.std.specs.Prelude.{◌≡◌, List, [], ◌++◌, ℕ, ◌≤◌, length, set};
 ghost use Rattle.graph.specs.Color.{smallest_from};
 ghost use Rattle.graph.specs.Colored.{color_of};

@@ -1,5 +1,7 @@
 // Stored colours of the first edges of a list: their number, the greatest, D, and the working list and the edge table made from them. Every function is total: what
 // lies outside a slice reads as its default and takes no store.
+#![tactic(auto)]
+
 ghost use Rattle.std.specs.Prelude.{◌≡◌, ◌&&◌, ◌-◌, eqb};
 ghost use Rattle.vizing.specs.MisraGries.{greatest_color};
 ghost use Rattle.repaint.specs.Repaint.{state};

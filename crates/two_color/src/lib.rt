@@ -1,4 +1,6 @@
 // Two colours for the nodes of a graph, so that neighbours differ, or a plain no.
+#![tactic(auto)]
+
 ghost use Rattle.std.specs.Prelude.{◌≡◌, ℕ, ◌≤◌, ◌<◌, length, get_or};
 ghost use Rattle.graph.specs.Report.{report_of_coloring};
 ghost use Rattle.graph.specs.Check.{Passed};

@@ -1,4 +1,6 @@
 // Writing a graph file.
+#![tactic(auto)]
+
 ghost use Rattle.std.specs.Prelude.{◌≡◌};
 ghost use Rattle.file_layout.specs.Outcomes.{write_file};
 ghost use Rattle.file_layout.specs.Reliance.{FileWriter};

@@ -5,6 +5,8 @@
 // (edge_table, repaint, fan, recolor, stored_colors), the layout of a file and its numbers (`layout_of`, `copy_numbers`), `incidence_front`, `days_of`, `fewer_days_part`, `copy_colors`,
 // `end_at` and `step_at`.
 // `matchday_text` is left out too: its text is the program's, not a colouring.
+#![tactic(auto)]
+
 pub use days::fewer_days;
 pub use edge_walk::{EdgeWalk, WalkStep, edge_at, edges_at, far_end};
 pub use file_fields::Method;
