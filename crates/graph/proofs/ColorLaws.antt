@@ -104,6 +104,7 @@ NoneHas l ks c = (k : ℕ) → Mem k ks → color_of l k ≢ c
 
 pub colored_edge : (l ks : List ℕ) (k : ℕ) → Mem k (colored_among l ks) → Mem k ks × (color_of l k ≢ no_color)
 unfolding colored_among
+colored_edge l [] k p = elim p [ ]
 colored_edge l (j ∷ ks) k p =
     by-test (is_colored l j)
     (λ t. elim (rw (t, colored_among) at p) [
@@ -114,6 +115,7 @@ colored_edge l (j ∷ ks) k p =
 
 pub edge_colored : (l ks : List ℕ) (k : ℕ) → Mem k ks → color_of l k ≢ no_color → Mem k (colored_among l ks)
 unfolding colored_among
+edge_colored l [] k x'' n = elim x'' [ ]
 edge_colored l (j ∷ ks) k (inl p) n = rw (colored_true l j (rw p at n), colored_among) (inl p)
 edge_colored l (j ∷ ks) k (inr p) n = by-test (is_colored l j) (λ t. rw (t, colored_among) (inr (edge_colored l ks k p n))) (λ t. rw (t, colored_among) (edge_colored l ks k p n))
 

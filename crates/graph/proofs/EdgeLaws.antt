@@ -157,6 +157,7 @@ keep_nodup false k ks n u = u
 
 first_member : (ends : List ℕ) (m v k : ℕ) → Mem k (first_edges ends m v) → (k < m) × (first_end ends k ≡ v)
 unfolding first_edges
+first_member ends zero v k p = elim p [ ]
 first_member ends (suc m) v k p = elim (keep_cases (eqb (first_end ends m) v) m k (first_edges ends m v) p) [
   | inl (t, e) ↦ (omega arith, rw e (eqb-true (first_end ends m) v t))
   | inr q ↦ let r = first_member ends m v k q in (omega (arith, r.0), r.1)
@@ -164,6 +165,7 @@ first_member ends (suc m) v k p = elim (keep_cases (eqb (first_end ends m) v) m 
 
 second_member : (ends : List ℕ) (m v k : ℕ) → Mem k (second_edges ends m v) → (k < m) × (second_end ends k ≡ v) × (first_end ends k ≢ v)
 unfolding second_edges
+second_member ends zero v k p = elim p [ ]
 second_member ends (suc m) v k p = elim (keep_cases (second_at ends m v) m k (second_edges ends m v) p) [
   | inl (t, e) ↦ let r = second_at_true ends m v t in (omega arith, rw e r.0, rw e r.1)
   | inr q ↦ let r = second_member ends m v k q in (omega (arith, r.0), r.1, r.2)

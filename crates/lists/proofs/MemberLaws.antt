@@ -20,6 +20,7 @@ elem_true k (x ∷ xs) e = elim (or_true (eqb k x) (elem k xs) e) [ inl p ↦ in
 
 pub elem_false : (k : ℕ) (xs : List ℕ) → elem k xs ≡ false → Mem k xs → ⊥
 unfolding elem
+elem_false k [] e x'' = elim x'' [ ]
 elem_false k (x ∷ xs) e (inl p) = eqb-false k x (or_false (eqb k x) (elem k xs) e).0 p
 elem_false k (x ∷ xs) e (inr p) = elem_false k xs (or_false (eqb k x) (elem k xs) e).1 p
 
@@ -33,6 +34,7 @@ pub dec_mem : (k : ℕ) (xs : List ℕ) → Mem k xs ⊎ (Mem k xs → ⊥)
 dec_mem k xs = by-test (elem k xs) (λ e. inl (elem_true k xs e)) (λ e. inr (elem_false k xs e))
 
 pub mem_append_left : (k : ℕ) (xs ys : List ℕ) → Mem k xs → Mem k (xs ++ ys)
+mem_append_left k [] ys x' = elim x' [ ]
 mem_append_left k (x ∷ xs) ys (inl p) = inl p
 mem_append_left k (x ∷ xs) ys (inr p) = inr (mem_append_left k xs ys p)
 
@@ -59,6 +61,7 @@ mem_get_or (x ∷ xs) (suc i) d h = inr (mem_get_or xs i d (omega arith))
 
 -- A member stands at some place.
 pub place_of_lem : (k : ℕ) (xs : List ℕ) (d : ℕ) → Mem k xs → (i : ℕ) × (i < length xs) × (get_or xs i d ≡ k)
+place_of_lem k [] d x' = elim x' [ ]
 place_of_lem k (x ∷ xs) d (inl p) = (0, omega arith, sym p)
 place_of_lem k (x ∷ xs) d (inr p) = let r = place_of_lem k xs d p in (suc r.0, omega (arith, r.1), r.2)
 
@@ -67,6 +70,7 @@ abbrev Erased : ℕ → List ℕ → Type 0
 Erased k ys = (zs : List ℕ) × (length ys ≡ suc (length zs)) × ((j : ℕ) → Mem j ys → (j ≡ k) ⊎ Mem j zs)
 
 erased : (k : ℕ) (ys : List ℕ) → Mem k ys → Erased k ys
+erased k [] x' = elim x' [ ]
 erased k (y ∷ ys) (inl p) = (ys, refl, λ j q. elim q [ inl e ↦ inl (cc) | inr r ↦ inr r ])
 erased k (y ∷ ys) (inr p) = go (erased k ys p)
   where
@@ -97,6 +101,7 @@ mem_below (suc n) k h = elim (dec_eq k n) [ inl p ↦ inl p | inr q ↦ inr (mem
 
 below_lt : (n k : ℕ) → Mem k (below n) → k < n
 unfolding below
+below_lt zero k x' = elim x' [ ]
 below_lt (suc n) k (inl p) = omega arith
 below_lt (suc n) k (inr p) = omega (arith, below_lt n k p)
 
@@ -121,10 +126,12 @@ cover_bound n xs c = rw length_below at (pigeonhole (below n) xs (nodup_below n)
 -- ---- members of a mapped list
 
 pub mem_map : (f : ℕ → ℕ) (k : ℕ) (ks : List ℕ) → Mem k ks → Mem (f k) (map f ks)
+mem_map f k [] x' = elim x' [ ]
 mem_map f k (j ∷ ks) (inl p) = inl (ap f p)
 mem_map f k (j ∷ ks) (inr p) = inr (mem_map f k ks p)
 
 pub map_mem : (f : ℕ → ℕ) (c : ℕ) (ks : List ℕ) → Mem c (map f ks) → (k : ℕ) × Mem k ks × (f k ≡ c)
+map_mem f c [] x' = elim x' [ ]
 map_mem f c (j ∷ ks) (inl p) = (j, inl refl, sym p)
 map_mem f c (j ∷ ks) (inr p) = let r = map_mem f c ks p in (r.0, inr r.1, r.2)
 
@@ -134,12 +141,14 @@ map_append f (j ∷ js) ks = ap (λ (l : List ℕ). f j ∷ l) (map_append f js 
 
 pub distinct_member : (xs : List ℕ) (k : ℕ) → Mem k (distinct xs) → Mem k xs
 unfolding distinct
+distinct_member [] k p = elim p [ ]
 distinct_member (x ∷ xs) k p = by-test (elem x xs)
     (λ t. inr (distinct_member xs k (rw (t, distinct) at p)))
     (λ t. elim (rw (t, distinct) at p) [ inl q ↦ inl q | inr q ↦ inr (distinct_member xs k q) ])
 
 pub member_distinct : (xs : List ℕ) (k : ℕ) → Mem k xs → Mem k (distinct xs)
 unfolding distinct
+member_distinct [] k x' = elim x' [ ]
 member_distinct (x ∷ xs) k (inl p) = by-test (elem x xs)
     (λ t. rw (t, distinct, p) (member_distinct xs x (elem_true x xs t)))
     (λ t. rw (t, distinct) (inl p))

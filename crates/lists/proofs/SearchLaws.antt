@@ -125,6 +125,7 @@ first_that_some t (j ∷ ks) k e =
 
 pub first_that_none : (t : ℕ → Bool) (ks : List ℕ) → first_that t ks ≡ none → (k : ℕ) → Mem k ks → t k ≡ false
 unfolding first_that
+first_that_none t [] e k p = elim p [ ]
 first_that_none t (j ∷ ks) e k p =
     by-test (t j)
     (λ q. absurd (none-ne-some j (sym (rw (q, first_that) at e))))
