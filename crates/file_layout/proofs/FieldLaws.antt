@@ -16,7 +16,6 @@ use Rattle.lists.proofs.PartsLaws.{copied_next, copied_full, copied_end}
 use Rattle.lists.proofs.SearchLaws.{all_below_cons, all_below_append}
 use Rattle.file_layout.specs.Fields.{number16, numbers, bytes16, bytes_of, Field, first_field, fields_up_to, fields, field_bytes, fields_bytes}
 use Rattle.file_layout.specs.File.{File}
-use Rattle.file_layout.specs.Examples
 
 -- ---- laws of numbers of two bytes: each is read back from its bytes, and bytes from their numbers
 

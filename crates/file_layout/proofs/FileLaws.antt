@@ -16,7 +16,6 @@ use Rattle.lists.proofs.SearchLaws.{all_below_cons}
 use Rattle.graph.specs.Edges.{edge_count}
 use Rattle.file_layout.specs.Fields.{numbers, bytes16, bytes_of, Field, fields, field_bytes, fields_bytes}
 use Rattle.file_layout.specs.File.{File, tag_bit, has_tag, graph_file, with_colors, with_method, is_method, after_colors, is_colors, after_ends, most_edges, is_ends, after_nodes, is_nodes, number_of, saved_of, file_of, field_if, other_fields, file_fields, file_bytes, GraphAlone, WithColors, WithMethod, WellFormed, LaidOut}
-use Rattle.file_layout.specs.Examples
 use Rattle.file_layout.proofs.FieldLaws.{length_numbers, length_bytes, number_of_bytes, numbers_of_bytes, bytes_of_number, bytes_of_numbers, number_below, fields_joined, fields_below, joined_again}
 
 -- A file is made of its parts.

@@ -1,4 +1,5 @@
 -- Laws of what specs/ defines.
+pub mod Examples
 pub mod FieldLaws
 pub mod FileLaws
 pub mod OutcomeLaws

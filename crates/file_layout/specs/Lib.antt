@@ -3,4 +3,3 @@ pub mod Fields
 pub mod File
 pub mod Outcomes
 pub mod Reliance
-pub mod Examples
