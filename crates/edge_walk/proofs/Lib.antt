@@ -1,3 +1,2 @@
--- What a step of a walk tells, and steps for proofs by hand, which misra_gries uses too.
+-- What a step of a walk tells.
 pub mod WalkLaws
-pub mod Hand

@@ -1,5 +1,4 @@
-// A walk over one node's edges. A struct that holds a slice is proved by hand, so its functions are thin: the work is
-// `step_at`'s, and a caller with plain slices uses `edge_at`.
+// A walk over one node's edges. Its functions are thin: the work is `step_at`'s, and a caller with plain slices uses `edge_at`.
 ghost use Rattle.std.specs.Prelude.{◌≡◌, ◌+◌, ◌*◌};
 ghost use Rattle.graph.specs.Stretch.{bounds, stretch};
 ghost use Rattle.edge_walk.specs.Walk.{step_at};
@@ -38,8 +37,8 @@ impl<'a> EdgeWalk<'a> {
         ensures entries { let starts = starts.entry.now in let entries = entries.entry.now in
             result.entries.now ≡ stretch starts entries node.0 }
         ensures place { let starts = starts.entry.now in let entries₀ = entries.now in
-            (result.entries.ptr.0 ≡ entries.entry.ref_ptr.0)
-            × (result.entries.ptr.1 ≡ entries.entry.ref_ptr.1 + 2 * (bounds starts entries₀ node.0).start) }
+            (result.entries.ref_ptr.0 ≡ entries.entry.ref_ptr.0)
+            × (result.entries.ref_ptr.1 ≡ entries.entry.ref_ptr.1 + 2 * (bounds starts entries₀ node.0).start) }
         ensures at { result.at ≡ 0 }
     {
         EdgeWalk {
