@@ -121,6 +121,7 @@ module _ {At : ℕ → ℕ → Type 0} {far : ℕ → ℕ → ℕ} {f : ℕ → 
   -- At each node that the path meets it has every edge of its two colours, except the edge of colour q at its start.
   closed : {v p q : ℕ} {ks : List ℕ} → Alternating At far f v p q ks → p ≢ no_color → q ≢ no_color → (e w j : ℕ) → Mem e ks → At e w → At j w
       → (f j ≡ p) ⊎ (f j ≡ q) → Mem j ks ⊎ ((w ≡ v) × (f j ≡ q))
+  closed (stops {v = v} {p = p} {q = q} _) color_p color_q e w j x32 ae aj color = elim x32 [ ]
   closed {v} {p} {q} (follows {ks = ks} k a t path) color_p color_q e w j (inl i) ae aj color = go (G.two_ends k v w a ak) color
     where
       ak : At k w
@@ -155,6 +156,7 @@ module _ {At : ℕ → ℕ → Type 0} {far : ℕ → ℕ → ℕ} {f : ℕ → 
 
   place : {v p q : ℕ} {ks : List ℕ} → Alternating At far f v p q ks → (w : ℕ) → Meets At ks w → Place v p q ks w
   unfolding path_end
+  place (stops free) w (e, i, b) = absurd i
   place {v} (follows k a t path) w (e, inl i, b) = elim (G.two_ends k v w a (subst (λ (x : ℕ). At x w) i b)) [ inl z ↦ inl z | inr z ↦ second_node_lem k a t path w z ]
   place {v} (follows k a t path) w (e, inr i, b) = elim (place path w (e, i, b)) [
     | inl z ↦ second_node_lem k a t path w z
@@ -244,6 +246,7 @@ module _ {At : ℕ → ℕ → Type 0} {far : ℕ → ℕ → ℕ} {f g : ℕ �
 -- Each edge of an alternating path stands at some node and has one of the two colours.
 pub path_edge : {At : ℕ → ℕ → Type 0} {far : ℕ → ℕ → ℕ} {f : ℕ → ℕ} {v p q : ℕ} {ks : List ℕ} → Alternating At far f v p q ks
     → (k : ℕ) → Mem k ks → ((w : ℕ) × At k w) × ((f k ≡ p) ⊎ (f k ≡ q))
+path_edge {At = At} {far = far} {f = f} (stops {v = v} {p = p} {q = q} _) k x7 = elim x7 [ ]
 path_edge {v = v} (follows j a t path) k (inl z) = ((v, rw z a), inl (rw z t))
 path_edge (follows j a t path) k (inr i) = let r = path_edge path k i in (r.0, elim r.1 [ inl s ↦ inr s | inr s ↦ inl s ])
 
@@ -286,7 +289,7 @@ module _ {At : ℕ → ℕ → Type 0} {far : ℕ → ℕ → ℕ} {f : ℕ → 
   }
     where
       leads : (w j : ℕ) → Mem w (v ∷ passed) → At j w → (f j ≡ q) ⊎ (f j ≡ p) → Mem (far j w) (v ∷ passed) ⊎ ((far j w ≡ far k v) × (f j ≡ p))
-      leads w j (inl z) b (inl s) = inl (inr (rw z (R.back j (subst (At j) z b) s)))
+      leads w j (inl z) b (inl s) = inl (inr (subst (λ (x : ℕ). Mem (far j x) passed) (sym z) (R.back j (subst (At j) z b) s)))
       leads w j (inl z) b (inr s) = inr (cc (proper j k v (subst (At j) z b) a (λ y. R.color_p (cc)) (cc)), s)
       leads w j (inr i) b color = elim (R.between w j i b (elim color [ inl s ↦ inr s | inr s ↦ inl s ])) [ inl r ↦ inl (inr r) | inr (z, s) ↦ inl (inl z) ]
 
@@ -300,20 +303,21 @@ module _ {At : ℕ → ℕ → Type 0} {far : ℕ → ℕ → ℕ} {f : ℕ → 
   -- The edges still to come stand at no node passed.
   apart : {passed : List ℕ} {v p q : ℕ} {ks : List ℕ} → Reached At far f n passed v p q → Alternating At far f v p q ks
       → (j w : ℕ) → Mem j ks → Mem w passed → At j w → ⊥
+  apart {passed = passed} R (stops {v = v} {p = p} {q = q} _) j w x22 i b = elim x22 [ ]
   apart {passed} {v} R (Alternating.follows k a t rest) j w (inl z) i b = elim (G.two_ends k v w a (subst (λ (x : ℕ). At x w) z b)) [
     | inl y ↦ R.nodup.0 (subst (λ (x : ℕ). Mem x passed) y i)
     | inr y ↦ (next_reached k R a t).nodup.0 (inr (subst (λ (x : ℕ). Mem x passed) y i))
   ]
-  apart R (Alternating.follows k a t rest) j w (inr z) i b = apart (next_reached k R a t) rest j w z (inr i) b
+  apart {passed} {v} R (Alternating.follows k a t rest) j w (inr z) i b = apart {passed = v ∷ passed} (next_reached k R a t) rest j w z (inr i) b
 
   -- They do not repeat, and with the nodes passed they are fewer than n.
   rest_nodup : {passed : List ℕ} {v p q : ℕ} {ks : List ℕ} → Reached At far f n passed v p q → Alternating At far f v p q ks → Nodup ks
   rest_nodup R (Alternating.stops free) = tt
-  rest_nodup {v = v} R (Alternating.follows k a t rest) = (λ i. apart (next_reached k R a t) rest k v i (inl refl) a, rest_nodup (next_reached k R a t) rest)
+  rest_nodup {passed} {v} R (Alternating.follows k a t rest) = (λ i. apart (next_reached k R a t) rest k v i (inl refl) a, rest_nodup {passed = v ∷ passed} (next_reached k R a t) rest)
 
   rest_length : {passed : List ℕ} {v p q : ℕ} {ks : List ℕ} → Reached At far f n passed v p q → Alternating At far f v p q ks → length ks + length passed < n
   rest_length {passed} {v} R (Alternating.stops free) = omega (arith, nodup_bound n (v ∷ passed) R.nodup R.inside)
-  rest_length R (Alternating.follows k a t rest) = omega (arith, rest_length (next_reached k R a t) rest)
+  rest_length {passed} {v} R (Alternating.follows k a t rest) = omega (arith, rest_length {passed = v ∷ passed} (next_reached k R a t) rest)
 
   -- The whole path from u.
   module _ {u c d : ℕ} {ks : List ℕ} (h : u < n) (free : Free At f u c) (color_c : c ≢ no_color) (color_d : d ≢ no_color) (alternating : Alternating At far f u d c ks) where

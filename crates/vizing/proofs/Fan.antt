@@ -48,6 +48,7 @@ module _ (At : ℕ → ℕ → Type 0) (far : ℕ → ℕ → ℕ) (u : ℕ) whe
 
 module _ {At : ℕ → ℕ → Type 0} {far : ℕ → ℕ → ℕ} {u : ℕ} where
   pub fan_edge : {f : ℕ → ℕ} {e : ℕ} {ks : List ℕ} → Fan At far u f e ks → (i : ℕ) → Mem i ks → At i u × (f i ≢ no_color)
+  fan_edge {f = f} (done {e = e}) i x4 = elim x4 [ ]
   fan_edge (Fan.next k a colored free fan) i (inl z) = rw z (a, colored)
   fan_edge (Fan.next k a colored free fan) i (inr z) = fan_edge fan i z
 
@@ -61,6 +62,7 @@ module _ {At : ℕ → ℕ → Type 0} {far : ℕ → ℕ → ℕ} {u : ℕ} whe
   up_to_free (UpTo.further h rest) = up_to_free rest
 
   pub up_to_member : {g : ℕ → ℕ} {d e : ℕ} {ks js : List ℕ} → UpTo At far u g d e ks js → (i : ℕ) → Mem i js → Mem i ks
+  up_to_member {g = g} {d = d} (here {e = e} {ks = ks} _) i x6 = elim x6 [ ]
   up_to_member (UpTo.further h rest) i (inl z) = inl z
   up_to_member (UpTo.further h rest) i (inr z) = inr (up_to_member rest i z)
 
@@ -72,6 +74,7 @@ module _ {At : ℕ → ℕ → Type 0} {far : ℕ → ℕ → ℕ} {u : ℕ} whe
   before : {f : ℕ → ℕ} {e : ℕ} {ks : List ℕ} → Fan At far u f e ks → Nodup (e ∷ ks) → (x : ℕ) → Mem x ks
       → (j : ℕ) × Mem j (e ∷ ks) × Free At f (far j u) (f x) × (j ≢ last_edge e ks)
   unfolding last_edge
+  before {f = f} (done {e = e}) _ x x12 = elim x12 [ ]
   before {e = e} (Fan.next {ks = ks} k a colored free fan) (out, nodup) x (inl z) =
       (e, inl refl, rw z free, λ y. out (subst (λ (i : ℕ). Mem i (k ∷ ks)) (sym y) (last_member k ks)))
   before (Fan.next k a colored free fan) (out, nodup) x (inr z) = let r = before fan nodup x z in (r.0, inr r.1, r.2, r.3)
@@ -139,6 +142,7 @@ module _ {At : ℕ → ℕ → Type 0} {far : ℕ → ℕ → ℕ} {u : ℕ} {f 
   grown_fan (Grown.joined k (a, new, colored, free) rest) = Fan.next k a colored free (grown_fan rest)
 
   grown_new : {fan : List ℕ} {e : ℕ} {ks : List ℕ} → Grown At far u f fan e ks → (i : ℕ) → Mem i ks → Mem i fan → ⊥
+  grown_new (full {fan = fan} {e = e} _) i x10 p = elim x10 [ ]
   grown_new {fan} (Grown.joined k (a, new, colored, free) rest) i (inl z) p = new (subst (λ (x : ℕ). Mem x fan) z p)
   grown_new (Grown.joined k joins rest) i (inr z) p = grown_new rest i z (inr p)
 
@@ -192,6 +196,7 @@ module _ (ends : List ℕ) (m : ℕ) (l : List ℕ) where
   pub places_up_to : (d u e : ℕ) (ks : List ℕ) → (j : ℕ) × Mem j (e ∷ ks) × Free (Incident ends m) (color_of l) (far_end ends j u) d
       → UpTo (Incident ends m) (far_end ends) u (color_of l) d e ks (places_to ends m l d u (far_end ends e u) ks)
   unfolding places_to
+  places_up_to d u e [] (j, inr x4, h) = elim x4 [ ]
   places_up_to d u e [] (j, inl z, h) = UpTo.here (rw z at h)
   places_up_to d u e (k ∷ ks) (j, p, h) =
       by-test (is_free l (edges_at ends m (far_end ends e u)) d)
@@ -244,6 +249,7 @@ kept ks M (out, nodup) i p = M.others i (λ z. out (inr (subst (λ (x : ℕ). Me
 -- Each rotated edge has d or the colour of an edge of ks.
 pub rotated_from : {h : ℕ → ℕ} {d : ℕ} {f : ℕ → ℕ} {k : ℕ} {ks : List ℕ} → Rotated h d f k ks → Nodup (k ∷ ks) → (i : ℕ) → Mem i (k ∷ ks)
     → (h i ≡ d) ⊎ ((j : ℕ) × Mem j ks × (h i ≡ f j))
+rotated_from {h = h} {d = d} (last {f = f} {k = k} t same) nodup i (inr p) = elim p [ ]
 rotated_from {h} (Rotated.last t same) nodup i (inl z) = inl (ap h z ∙ t)
 rotated_from {h} {k = k} (Rotated.next {j = j} M R) (out, nodup) i (inl z) = inr (j, inl refl, ap h z ∙ rotated_other R k out ∙ M.taken)
 rotated_from (Rotated.next {ks = ks} M R) (out, nodup) i (inr p) = elim (rotated_from R nodup i p) [
@@ -253,6 +259,7 @@ rotated_from (Rotated.next {ks = ks} M R) (out, nodup) i (inr p) = elim (rotated
 
 -- The colour of each edge of ks stands on a rotated edge.
 pub rotated_to : {h : ℕ → ℕ} {d : ℕ} {f : ℕ → ℕ} {k : ℕ} {ks : List ℕ} → Rotated h d f k ks → Nodup (k ∷ ks) → (j : ℕ) → Mem j ks → (i : ℕ) × (h i ≡ f j)
+rotated_to {h = h} {d = d} (last {f = f} {k = k} _ _) _ j x12 = elim x12 [ ]
 rotated_to {f = f} {k = k} (Rotated.next M R) (out, nodup) j (inl z) = (k, rotated_other R k out ∙ M.taken ∙ ap f (sym z))
 rotated_to (Rotated.next {ks = ks} M R) (out, nodup) j (inr p) = let r = rotated_to R nodup j p in (r.0, r.1 ∙ kept ks M (out, nodup) j p)
 
@@ -322,15 +329,15 @@ module _ {At : ℕ → ℕ → Type 0} {far : ℕ → ℕ → ℕ} (G : Graph At
         Fan.next i b (λ z. colored (cc)) free-i (moved_fan fan b differs (λ p. out-k (inr p)) (λ p. out-j (inr p)))
 
   -- d is free at u and at the far end of the fan's last edge: the rotation keeps a proper colouring.
-  pub rotation_proper : {f h : ℕ → ℕ} {d k : ℕ} {ks : List ℕ} → Rotated h d f k ks → Proper At f → At k u → Fan At far u f k ks → Nodup (k ∷ ks)
+  pub rotation_proper : {h : ℕ → ℕ} {d : ℕ} {f : ℕ → ℕ} {k : ℕ} {ks : List ℕ} → Rotated h d f k ks → Proper At f → At k u → Fan At far u f k ks → Nodup (k ∷ ks)
       → d ≢ no_color → Free At f u d → Free At f (far (last_edge k ks) u) d → Proper At h
   unfolding last_edge
-  rotation_proper {f} {h} {d} {k} (Rotated.last t same) proper a fan nodup color_d free-u free_last = color_edge f h k proper same free
+  rotation_proper {h} {d} {f} {k} (Rotated.last t same) proper a fan nodup color_d free-u free_last = color_edge f h k proper same free
     where
       free : (v : ℕ) → At k v → Free At f v (h k)
       free v b = rw t (elim (G.two_ends k u v a b) [ inl z ↦ rw z free-u | inr z ↦ rw z free_last ])
-  rotation_proper {d = d} {k = k} (Rotated.next {ks = ks} M R) proper a (Fan.next j b colored free fan) (out, nodup) color_d free-u free_last =
-      rotation_proper R (moved_proper M a proper b colored free) b (moved_fan M a fan b differ (λ p. out (inr p)) nodup.0) nodup color_d
+  rotation_proper {d = d} {k = k} (Rotated.next {ks = ks} M R) proper a (Fan.next j b colored free-j fan) (out, nodup) color_d free-u free_last =
+      rotation_proper R (moved_proper M a proper b colored free-j) b (moved_fan M a fan b differ (λ p. out (inr p)) nodup.0) nodup color_d
       (moved_free_u M a d b color_d free-u)
       (moved_free M a (far (last_edge j ks) u) d (G.no_loop (last_edge j ks) u at_last) (far_apart M a (last_edge j ks) at_last last_differs) color_d free_last)
     where

@@ -55,6 +55,7 @@ module _ (ends : List ℕ) (m : ℕ) (l : List ℕ) where
 
   fan_colored : (fuel u : ℕ) (fan : List ℕ) (x k : ℕ) → Mem k (grow_fan ends m fuel l u fan x) → color_of l k ≢ no_color
   unfolding grow_fan
+  fan_colored zero u fan x k p = elim p [ ]
   fan_colored (suc fuel) u fan x k p = elim (some_or_none (first_joining l (edges_at ends m x) fan (edges_at ends m u))) [
     | inl e ↦ absurd (rw (e, grow_fan) at p)
     | inr (j, e) ↦ elim (rw (e, grow_fan) at p) [
@@ -65,6 +66,7 @@ module _ (ends : List ℕ) (m : ℕ) (l : List ℕ) where
 
   path_colored : (fuel v p q : ℕ) → p ≢ no_color → q ≢ no_color → (k : ℕ) → Mem k (path ends m fuel l v p q) → color_of l k ≢ no_color
   unfolding path
+  path_colored zero v p q np nq k member = elim member [ ]
   path_colored (suc fuel) v p q np nq k member = elim (some_or_none (edge_of_color l p (edges_at ends m v))) [
     | inl e ↦ absurd (rw (e, path) at member)
     | inr (j, e) ↦ elim (rw (e, path) at member) [
@@ -75,6 +77,7 @@ module _ (ends : List ℕ) (m : ℕ) (l : List ℕ) where
 
   pub places_in_fan : (d u x : ℕ) (ks : List ℕ) (k : ℕ) → Mem k (places_to ends m l d u x ks) → Mem k ks
   unfolding places_to
+  places_in_fan d u x [] k p = elim p [ ]
   places_in_fan d u x (j ∷ ks) k p =
       by-test (is_free l (edges_at ends m x) d)
       (λ t. absurd (rw (t, places_to) at p))

@@ -48,6 +48,7 @@ module _ (ends : List ℕ) (m : ℕ) (S : Simple ends m) where
 module _ (ends : List ℕ) (m n : ℕ) (S : Simple ends m) (inside : (k : ℕ) → k < m → (first_end ends k < n) × (second_end ends k < n)) (v : ℕ) where
   -- A far end is that of some edge of the list.
   far_of : (w : ℕ) (ks : List ℕ) → Mem w (map (λ (k : ℕ). far_end ends k v) ks) → (k : ℕ) × Mem k ks × (w ≡ far_end ends k v)
+  far_of w [] x' = elim x' [ ]
   far_of w (k ∷ ks) (inl p) = (k, inl refl, p)
   far_of w (k ∷ ks) (inr p) = let r = far_of w ks p in (r.0, inr r.1, r.2)
 

@@ -48,6 +48,7 @@ degree_palette ends m n D h degrees = record {
 -- Stored by a function of the place, each place has its own colour, also where a place comes twice.
 color_store_map : (f : ℕ → ℕ) (l ks : List ℕ) (i : ℕ) → Mem i ks → i < length l → color_of (store l ks (map f ks)) i ≡ f i
 unfolding store
+color_store_map f l [] i p h = elim p [ ]
 color_store_map f l (k ∷ ks) i p h = elim (dec_mem i ks) [
   | inl q ↦ color_store_map f (set l k (f k)) ks i q (rw (length-set l k (f k)) h)
   | inr n ↦ color_store_other (set l k (f k)) ks (map f ks) i n ∙ (elim p [ inl z ↦ rw z (color_set_same l k (f k) (rw z at h)) | inr q ↦ absurd (n q) ])

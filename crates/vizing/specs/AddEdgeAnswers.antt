@@ -11,8 +11,6 @@ use Rattle.graph.specs.Edges.{first_end, second_end, is_loop, far_end, second_at
 use Rattle.graph.specs.Color.{colored, colors_in, days_of, smallest_free, smallest_from}
 use Rattle.graph.specs.Colored.{color_of, is_colored, colored_among, smallest_free_at}
 use Rattle.vizing.specs.MisraGries.{edge_of_color, is_free, store, joins, first_joining, last_of, fan_from, fan_of, path, swap, exchange, first_free_place, rotate, find, step, has_loop, same_ends, has_double_edge}
--- No name of it is used: a wrong step is to be refused at the whole call's rows.
-use Rattle.vizing.specs.Answers
 use Rattle.vizing.specs.Demand3.{max_degree}
 use Rattle.vizing.specs.Demand3Examples.{list_p13}
 use Rattle.vizing.specs.AddEdge.{has_end, share_end, has_color_above, has_equal_colors, stored_checks, add_edge_checks, stored_list, add_edge}
