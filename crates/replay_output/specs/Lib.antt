@@ -1,2 +1,3 @@
--- What a call is lent.
+-- What a call is lent, and how much of it.
+pub mod Counts
 pub mod Lent

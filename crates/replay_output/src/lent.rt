@@ -1,6 +1,6 @@
 // What a line lends: how much of a slice, what stands in it before the call, and whether the call left it so.
 ghost use Rattle.std.specs.Prelude.{◌≡◌, true};
-ghost use Rattle.io.specs.Counts.{IsPrefixLen};
+ghost use Rattle.replay_output.specs.Counts.{IsPrefixLen};
 ghost use Rattle.replay_output.specs.Lent.{number_at, byte_at, Lent};
 
 // As many of list's numbers as are wanted, or all that it has.
