@@ -11,15 +11,15 @@ pub use check::check_graph;
 pub use colors::copy_colors;
 
 // A node's number; never taken for an edge's.
-#[derive(Drop)]
+#[derive(Clone, Copy)]
 pub struct NodeIndex(pub u16);
 
 // An edge's number; never taken for a node's.
-#[derive(Drop)]
+#[derive(Clone, Copy)]
 pub struct EdgeIndex(pub u16);
 
 // A colour, 0 to 65,534, or none.
-#[derive(Drop)]
+#[derive(Clone, Copy)]
 pub struct Color(pub u16);
 
 impl Color {
@@ -34,7 +34,7 @@ impl Color {
 }
 
 // The sizes of a graph that passed the checks.
-#[derive(Drop)]
+#[derive(Clone, Copy)]
 pub struct Graph {
     pub nodes: usize,
     pub edges: usize,
