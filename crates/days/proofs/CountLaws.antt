@@ -50,6 +50,7 @@ module _ (lo hi : ℕ) where
       (λ o q. let s = within_member cs c q in (inr s.0, s.1, s.2)) p
 
   member_within : (cs : List ℕ) (c : ℕ) → Mem c cs → lo ≤ c → c < hi → Mem c (within lo hi cs)
+  member_within [] c x3 a b = elim x3 [ ]
   member_within (x ∷ cs) c (inl e) a b = rw (within_in x cs (omega arith) (omega arith)) (inl e)
   member_within (x ∷ cs) c (inr q) a b = within_cases (λ xs. Mem c xs) x cs (λ s t. inr (member_within cs c q a b)) (λ o. member_within cs c q a b)
 

@@ -31,6 +31,7 @@ color_member (x ∷ cs) c p = elim (dec_eq x no_color) [
 ]
 
 pub member_color : (cs : List ℕ) (c : ℕ) → Mem c cs → c ≢ no_color → Mem c (colors_in cs)
+member_color [] c x'' n = elim x'' [ ]
 member_color (x ∷ cs) c (inl q) n = rw (in_colored x cs (rw q at n)) (inl q)
 member_color (x ∷ cs) c (inr q) n = elim (dec_eq x no_color) [
   | inl e ↦ rw (in_uncolored x cs e) (member_color cs c q n)
