@@ -1,7 +1,7 @@
 // The bytes of standard input, one after the other, through a buffer that the caller lends.
 ghost use Rattle.std.specs.Prelude.{◌≡◌, ◌-◌, ◌≤◌};
 
-use libc::STDIN_FILENO;
+use std::io::Read;
 
 // A place in the input: its byte, which of the buffer's bytes come next, and how many bytes may still be read. No contract can
 // say that an input ends, so every loop over it ends by that number, which is 0 once the input has ended.
@@ -29,29 +29,28 @@ impl Cursor {
         }
     }
 
-    pub fn start(buffer: &mut [u8]) -> Self {
-        refilled(buffer, Self::MOST_BYTES)
+    pub fn start(rt: &impl Input, buffer: &mut [u8]) -> Self {
+        refilled(rt, buffer, Self::MOST_BYTES)
     }
 }
 
-// The first of the next bytes.
-fn refilled(buffer: &mut [u8], left: usize) -> Cursor
+// The first of the next bytes. A read that fails ends the input.
+fn refilled(rt: &impl Input, buffer: &mut [u8], left: usize) -> Cursor
     ensures left { result.left ≤ left }
 {
-    let filled = io::read_full(STDIN_FILENO, buffer);
-    if filled == 0 {
-        return Cursor::ended();
-    }
-    Cursor {
-        byte: buffer[0],
-        at: 1,
-        filled,
-        left,
+    match rt.reader().read(buffer) {
+        Ok(0) | Err(_) => Cursor::ended(),
+        Ok(filled) => Cursor {
+            byte: buffer[0],
+            at: 1,
+            filled,
+            left,
+        },
     }
 }
 
 // The place after input.
-pub(crate) fn next(buffer: &mut [u8], input: Cursor) -> Cursor
+pub(crate) fn next(rt: &impl Input, buffer: &mut [u8], input: Cursor) -> Cursor
     ensures left { result.left ≤ input.left - 1 }
 {
     let left = input.left;
@@ -61,10 +60,10 @@ pub(crate) fn next(buffer: &mut [u8], input: Cursor) -> Cursor
     let at = input.at;
     let filled = input.filled;
     if at >= filled {
-        return refilled(buffer, left - 1);
+        return refilled(rt, buffer, left - 1);
     }
     if at >= buffer.len() {
-        return refilled(buffer, left - 1);
+        return refilled(rt, buffer, left - 1);
     }
     Cursor {
         byte: buffer[at],
@@ -75,7 +74,7 @@ pub(crate) fn next(buffer: &mut [u8], input: Cursor) -> Cursor
 }
 
 // The next line's first byte.
-pub(crate) fn skip_line(buffer: &mut [u8], input: Cursor) -> Cursor
+pub(crate) fn skip_line(rt: &impl Input, buffer: &mut [u8], input: Cursor) -> Cursor
     ensures left { result.left ≤ input.left - 1 }
 {
     let mut here = input;
@@ -83,7 +82,7 @@ pub(crate) fn skip_line(buffer: &mut [u8], input: Cursor) -> Cursor
         if here.byte == b'\n' {
             break;
         }
-        here = next(buffer, here);
+        here = next(rt, buffer, here);
     }
-    next(buffer, here)
+    next(rt, buffer, here)
 }

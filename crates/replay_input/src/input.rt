@@ -1,6 +1,6 @@
 // Words and numbers of the input.
 ghost use Rattle.std.specs.Prelude.{◌≡◌, ◌+◌, ◌*◌, ◌≤◌, ◌<◌, min};
-ghost use Rattle.io.specs.Counts.{IsPrefixLen};
+ghost use Rattle.replay_output.specs.Counts.{IsPrefixLen};
 
 use crate::cursor::{Cursor, next};
 use replay_output::{cut, cut_bytes};
@@ -27,7 +27,12 @@ fn ends_word(byte: u8) -> bool {
 }
 
 // The bytes up to a space or the line's end, as many as word holds.
-pub(crate) fn read_word(buffer: &mut [u8], input: Cursor, word: &mut [u8]) -> ListRead
+pub(crate) fn read_word(
+    rt: &impl Input,
+    buffer: &mut [u8],
+    input: Cursor,
+    word: &mut [u8],
+) -> ListRead
     ensures counts { IsPrefixLen result.count word.new }
     ensures left { result.input.left ≤ input.left }
 {
@@ -39,17 +44,17 @@ pub(crate) fn read_word(buffer: &mut [u8], input: Cursor, word: &mut [u8]) -> Li
         }
         word[count] = here.byte;
         count += 1;
-        here = next(buffer, here);
+        here = next(rt, buffer, here);
     }
     ListRead { count, input: here }
 }
 
 // Numbers stand behind single spaces.
-fn skip_space(buffer: &mut [u8], input: Cursor) -> Cursor
+fn skip_space(rt: &impl Input, buffer: &mut [u8], input: Cursor) -> Cursor
     ensures left { result.left ≤ input.left }
 {
     if input.byte == b' ' {
-        return next(buffer, input);
+        return next(rt, buffer, input);
     }
     input
 }
@@ -79,10 +84,10 @@ fn with_digit(value: usize, digit: usize) -> usize
 }
 
 // The next number of the line, or 0 where none is there.
-pub(crate) fn read_number(buffer: &mut [u8], input: Cursor) -> NumberRead
+pub(crate) fn read_number(rt: &impl Input, buffer: &mut [u8], input: Cursor) -> NumberRead
     ensures left { result.input.left ≤ input.left }
 {
-    let mut here = skip_space(buffer, input);
+    let mut here = skip_space(rt, buffer, input);
     let mut value = 0;
     while here.left > 0 {
         let digit = digit_of(here.byte);
@@ -90,7 +95,7 @@ pub(crate) fn read_number(buffer: &mut [u8], input: Cursor) -> NumberRead
             break;
         }
         value = with_digit(value, digit);
-        here = next(buffer, here);
+        here = next(rt, buffer, here);
     }
     NumberRead { value, input: here }
 }
@@ -103,16 +108,21 @@ pub fn narrow(value: usize) -> u16
 }
 
 // A length and that many numbers, as many as list holds.
-pub(crate) fn read_list(buffer: &mut [u8], input: Cursor, list: &mut [u16]) -> ListRead
+pub(crate) fn read_list(
+    rt: &impl Input,
+    buffer: &mut [u8],
+    input: Cursor,
+    list: &mut [u16],
+) -> ListRead
     ensures counts { IsPrefixLen result.count list.new }
     ensures left { result.input.left ≤ input.left }
 {
-    let wanted = read_number(buffer, input);
+    let wanted = read_number(rt, buffer, input);
     let count = cut(wanted.value, list);
     let mut here = wanted.input;
     let mut i = 0;
     while i < count {
-        let read = read_number(buffer, here);
+        let read = read_number(rt, buffer, here);
         list[i] = narrow(read.value);
         here = read.input;
         i += 1;
@@ -127,16 +137,21 @@ pub fn narrow_byte(value: usize) -> u8
     if value > 255 { 255 } else { value as u8 }
 }
 
-pub(crate) fn read_bytes(buffer: &mut [u8], input: Cursor, bytes: &mut [u8]) -> ListRead
+pub(crate) fn read_bytes(
+    rt: &impl Input,
+    buffer: &mut [u8],
+    input: Cursor,
+    bytes: &mut [u8],
+) -> ListRead
     ensures counts { IsPrefixLen result.count bytes.new }
     ensures left { result.input.left ≤ input.left }
 {
-    let wanted = read_number(buffer, input);
+    let wanted = read_number(rt, buffer, input);
     let count = cut_bytes(wanted.value, bytes);
     let mut here = wanted.input;
     let mut i = 0;
     while i < count {
-        let read = read_number(buffer, here);
+        let read = read_number(rt, buffer, here);
         bytes[i] = narrow_byte(read.value);
         here = read.input;
         i += 1;

@@ -61,14 +61,14 @@ impl Sizes {
 }
 
 // graph N L e1 .. eL
-fn read_graph(buffer: &mut [u8], input: Cursor, ends: &mut [u16]) -> Line
+fn read_graph(rt: &impl Input, buffer: &mut [u8], input: Cursor, ends: &mut [u16]) -> Line
     ensures left { result.next.left ≤ input.left - 1 }
 {
-    let nodes = read_number(buffer, input);
+    let nodes = read_number(rt, buffer, input);
     let from = nodes.input;
-    let list = read_list(buffer, from, ends);
+    let list = read_list(rt, buffer, from, ends);
     let rest = list.input;
-    let next = skip_line(buffer, rest);
+    let next = skip_line(rt, buffer, rest);
     Line {
         name: Name::Graph,
         first: nodes.value,
@@ -79,12 +79,12 @@ fn read_graph(buffer: &mut [u8], input: Cursor, ends: &mut [u16]) -> Line
 }
 
 // presets L p1 .. pL
-fn read_presets(buffer: &mut [u8], input: Cursor, presets: &mut [u16]) -> Line
+fn read_presets(rt: &impl Input, buffer: &mut [u8], input: Cursor, presets: &mut [u16]) -> Line
     ensures left { result.next.left ≤ input.left - 1 }
 {
-    let list = read_list(buffer, input, presets);
+    let list = read_list(rt, buffer, input, presets);
     let rest = list.input;
-    let next = skip_line(buffer, rest);
+    let next = skip_line(rt, buffer, rest);
     Line {
         name: Name::Presets,
         first: list.count,
@@ -95,12 +95,12 @@ fn read_presets(buffer: &mut [u8], input: Cursor, presets: &mut [u16]) -> Line
 }
 
 // file L b1 .. bL
-fn read_file(buffer: &mut [u8], input: Cursor, file: &mut [u8]) -> Line
+fn read_file(rt: &impl Input, buffer: &mut [u8], input: Cursor, file: &mut [u8]) -> Line
     ensures left { result.next.left ≤ input.left - 1 }
 {
-    let bytes = read_bytes(buffer, input, file);
+    let bytes = read_bytes(rt, buffer, input, file);
     let rest = bytes.input;
-    let next = skip_line(buffer, rest);
+    let next = skip_line(rt, buffer, rest);
     Line {
         name: Name::File,
         first: bytes.count,
@@ -112,6 +112,7 @@ fn read_file(buffer: &mut [u8], input: Cursor, file: &mut [u8]) -> Line
 
 // edges_at V S s1 .. sS E e1 .. eE, and fewer_days M F f1 .. fF S s1 .. sS
 fn read_two_lists(
+    rt: &impl Input,
     buffer: &mut [u8],
     input: Cursor,
     name: Name,
@@ -120,13 +121,13 @@ fn read_two_lists(
 ) -> Line
     ensures left { result.next.left ≤ input.left - 1 }
 {
-    let number = read_number(buffer, input);
+    let number = read_number(rt, buffer, input);
     let from = number.input;
-    let first = read_list(buffer, from, list);
+    let first = read_list(rt, buffer, from, list);
     let from = first.input;
-    let second = read_list(buffer, from, entries);
+    let second = read_list(rt, buffer, from, entries);
     let rest = second.input;
-    let next = skip_line(buffer, rest);
+    let next = skip_line(rt, buffer, rest);
     Line {
         name,
         first: number.value,
@@ -137,16 +138,16 @@ fn read_two_lists(
 }
 
 // A call's name and at most three numbers; a name that is unknown reads the same.
-fn read_call(buffer: &mut [u8], input: Cursor, name: Name) -> Line
+fn read_call(rt: &impl Input, buffer: &mut [u8], input: Cursor, name: Name) -> Line
     ensures left { result.next.left ≤ input.left - 1 }
 {
-    let first = read_number(buffer, input);
+    let first = read_number(rt, buffer, input);
     let from = first.input;
-    let second = read_number(buffer, from);
+    let second = read_number(rt, buffer, from);
     let from = second.input;
-    let third = read_number(buffer, from);
+    let third = read_number(rt, buffer, from);
     let rest = third.input;
-    let next = skip_line(buffer, rest);
+    let next = skip_line(rt, buffer, rest);
     Line {
         name,
         first: first.value,
@@ -157,6 +158,7 @@ fn read_call(buffer: &mut [u8], input: Cursor, name: Name) -> Line
 }
 
 pub fn read_line(
+    rt: &impl Input,
     buffer: &mut [u8],
     input: Cursor,
     ends: &mut [u16],
@@ -167,14 +169,14 @@ pub fn read_line(
 ) -> Line
     ensures left { result.next.left ≤ input.left - 1 }
 {
-    let read = read_name(buffer, input);
+    let read = read_name(rt, buffer, input);
     let name = read.name;
     let from = read.input;
     match name {
-        Name::Graph => read_graph(buffer, from, ends),
-        Name::Presets => read_presets(buffer, from, presets),
-        Name::EdgesAt | Name::FewerDays => read_two_lists(buffer, from, name, list, entries),
-        Name::File => read_file(buffer, from, file),
-        _ => read_call(buffer, from, name),
+        Name::Graph => read_graph(rt, buffer, from, ends),
+        Name::Presets => read_presets(rt, buffer, from, presets),
+        Name::EdgesAt | Name::FewerDays => read_two_lists(rt, buffer, from, name, list, entries),
+        Name::File => read_file(rt, buffer, from, file),
+        _ => read_call(rt, buffer, from, name),
     }
 }

@@ -118,11 +118,11 @@ fn name_of(word: &[u8]) -> Name {
 }
 
 // The line's first word.
-pub(crate) fn read_name(buffer: &mut [u8], input: Cursor) -> NameRead
+pub(crate) fn read_name(rt: &impl Input, buffer: &mut [u8], input: Cursor) -> NameRead
     ensures left { result.input.left ≤ input.left }
 {
     let mut word = [0u8; 64];
-    let read = read_word(buffer, input, &mut word);
+    let read = read_word(rt, buffer, input, &mut word);
     let end = read.count;
     let name = name_of(&word[..end]);
     let input = read.input;
