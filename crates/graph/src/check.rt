@@ -22,6 +22,7 @@ fn all_below(n: u16, ends: &[u16]) -> bool
 }
 
 // The graph checks, in order, over the whole input.
+#[tactic(auto, using(crate::proofs::CheckLaws::too_many_nodes, crate::proofs::CheckLaws::odd_ends, crate::proofs::CheckLaws::too_many_ends, crate::proofs::CheckLaws::end_outside, crate::proofs::CheckLaws::graph_passes))]
 pub fn check_graph(n: usize, ends: &[u16]) -> Checked
     ensures report { report_of_checked result ≡ check_graph n ends.now }
 {

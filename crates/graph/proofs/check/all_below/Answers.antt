@@ -1,5 +1,4 @@
 use Rattle.std.proofs.Common.{rules, arith, refl}
-use mathlib.Core.Logic.{⊎_elim}
 use mathlib.Core.Path.{◌∙◌}
 use Rattle.lists.specs.Search.{all_below}
 use Rattle.lists.proofs.SearchLaws.{all_below_kept, all_below_broken, all_below_all}
@@ -11,7 +10,7 @@ unfolding all_below
 loop-i-init c = (omega arith, refl)
 
 pub loop-i-preserved : goal.loop-i-preserved
-loop-i-preserved c = 
+loop-i-preserved c =
     let h = c.loop-i-test.true in
     let e = c.loop-i.invariant.1 in
     (omega arith, elim c.if-n-ends.branch [ then-n-ends w ↦ w.all-is ∙ all_below_broken _ _ _ h w.if-n-ends.true | else-n-ends w ↦ w.all-is ∙ all_below_kept _ _ _ _ e h w.if-n-ends.false ])
