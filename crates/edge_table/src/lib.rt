@@ -29,7 +29,7 @@ pub enum EdgeOfColor {
 }
 
 // What a place of the table holds: an edge's number, or none.
-#[derive(Drop)]
+#[derive(Clone, Copy)]
 pub struct Entry(pub u16);
 
 impl Entry {

@@ -33,7 +33,7 @@ pub fn set_mark(marks: &mut [u16], edge: EdgeIndex, stamp: u16)
 
 // Whether the edge is coloured and not in the fan yet.
 fn may_join(work: &[u16], marks: &[u16], stamp: u16, edge: EdgeIndex) -> bool
-    ensures answer { let work = work.entry.now in let marks = marks.entry.now in result ≡ may_join work marks stamp edge.0 }
+    ensures answer { result ≡ may_join work.now marks.now stamp edge.0 }
 {
     if mark_of(marks, edge) == stamp {
         return false;
@@ -53,8 +53,7 @@ fn joins(
     far: NodeIndex,
     edge: EdgeIndex,
 ) -> bool
-    ensures answer { let work = work.entry.now in let table = table.entry.now in let marks = marks.entry.now in
-        result ≡ joins_marked work table marks stamp far.0 edge.0 }
+    ensures answer { result ≡ joins_marked work.now table.now marks.now stamp far.0 edge.0 }
 {
     let color = color_of(work, edge);
     if color.0 == Color::NONE {
@@ -77,9 +76,7 @@ pub fn first_joining(
     near: &[u16],
     from: usize,
 ) -> Joining
-    ensures answer { let work = work.entry.now in let table = table.entry.now in let marks = marks.entry.now in let near = near.entry.now in
-        option_of result
-        ≡ first_that (joins_marked work table marks stamp far.0) (drop from near) }
+    ensures answer { option_of result ≡ first_that (joins_marked work.now table.now marks.now stamp far.0) (drop from near.now) }
 {
     let mut i = from;
     while i < near.len() {
@@ -94,8 +91,7 @@ pub fn first_joining(
 
 // The first place from this one on whose candidate is coloured and not in the fan yet, or the end; from beyond the end, the place itself.
 pub fn skip(work: &[u16], marks: &[u16], stamp: u16, near: &[u16], from: usize) -> usize
-    ensures answer { let work = work.entry.now in let marks = marks.entry.now in let near = near.entry.now in
-        result ≡ from + first_place (may_join work marks stamp) (drop from near) }
+    ensures answer { result ≡ from + first_place (may_join work.now marks.now stamp) (drop from near.now) }
 {
     let mut i = from;
     while i < near.len() {

@@ -16,8 +16,7 @@ pub fn places_to(
     node: NodeIndex,
     far: NodeIndex,
 ) -> usize
-    ensures answer { let ends = ends.entry.now in let table = table.entry.now in let fan = fan.entry.now in
-        result ≡ 1 + length (table_places ends table color.0 node.0 far.0 (drop 1 fan)) }
+    ensures answer { result ≡ 1 + length (table_places ends.now table.now color.0 node.0 far.0 (drop 1 fan.now)) }
 {
     let mut count = 1;
     let mut end = far;

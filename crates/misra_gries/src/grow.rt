@@ -23,8 +23,7 @@ pub(crate) fn grow(
 ) -> usize
     requires fan_ready { FanReady ends.now (edge_count ends.now) work.now table.now marks.old stamp near.now edge.0 node.0 }
     requires in_bounds { 512 ≤ length out.old }
-    ensures out { let ends = ends.entry.now in let work = work.entry.now in
-        take result out.new ≡ fan_of ends (edge_count ends) work edge.0 }
+    ensures out { take result out.new ≡ fan_of ends.now (edge_count ends.now) work.now edge.0 }
     ensures bound { result ≤ 512 }
     ensures marks { (j : ℕ) → get_or marks.new j 0 ≤ stamp }
 {

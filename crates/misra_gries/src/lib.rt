@@ -37,10 +37,8 @@ fn color_from(
     requires table { Table ends.now n starts.now entries.now }
     requires stored_len_bound { length stored.now ≤ edge_count ends.now }
     requires colors_len { length colors.old ≡ edge_count ends.now }
-    ensures report { let ends = ends.entry.now in let stored = stored.entry.now in let colors = colors.entry.now in
-        report_of_coloring result ≡ (from_stored n ends stored colors).report }
-    ensures colors { let ends = ends.entry.now in let stored = stored.entry.now in let colors₀ = colors.old in
-        colors.new ≡ (from_stored n ends stored colors₀).colors }
+    ensures report { report_of_coloring result ≡ (from_stored n ends.now stored.now colors.old).report }
+    ensures colors { colors.new ≡ (from_stored n ends.now stored.now colors.old).colors }
 {
     let mut work = [Color::NONE; Graph::MAX_EDGES];
     let mut table = [Entry::NONE; EdgeTable::PLACES];
@@ -68,12 +66,9 @@ fn color_from(
 
 // Each edge gets a colour, by Misra and Gries 1992. A wrong length is told after the graph checks and before loops and double edges.
 pub fn misra_gries_edge_color(n: usize, ends: &[u16], colors: &mut [u16]) -> Coloring
-    ensures report { let ends = ends.entry.now in let colors = colors.entry.now in
-        report_of_coloring result ≡ (misra_gries n ends colors).report }
-    ensures colors { let ends = ends.entry.now in let colors₀ = colors.old in
-        colors.new ≡ (misra_gries n ends colors₀).colors }
-    ensures vizing { let ends = ends.entry.now in let colors₀ = colors.old in
-        VizingColoring n ends colors₀ (report_of_coloring result) colors.new }
+    ensures report { report_of_coloring result ≡ (misra_gries n ends.now colors.old).report }
+    ensures colors { colors.new ≡ (misra_gries n ends.now colors.old).colors }
+    ensures vizing { VizingColoring n ends.now colors.old (report_of_coloring result) colors.new }
 {
     let mut starts = [0u16; Graph::STARTS];
     let mut entries = [0u16; Graph::ENTRIES];
@@ -88,12 +83,9 @@ pub fn misra_gries_edge_color(n: usize, ends: &[u16], colors: &mut [u16]) -> Col
 // The last edge gets a colour too, by the step that it has in the run over all edges, from the stored colours of the others. The step may
 // change those, as it does in the run.
 pub fn misra_gries_add_edge(n: usize, ends: &[u16], stored: &[u16], colors: &mut [u16]) -> Coloring
-    ensures report { let ends = ends.entry.now in let stored = stored.entry.now in let colors = colors.entry.now in
-        report_of_coloring result ≡ (add_edge n ends stored colors).report }
-    ensures colors { let ends = ends.entry.now in let stored = stored.entry.now in let colors₀ = colors.old in
-        colors.new ≡ (add_edge n ends stored colors₀).colors }
-    ensures added { let ends = ends.entry.now in let stored = stored.entry.now in let colors₀ = colors.old in
-        EdgeAdded n ends stored colors₀ (report_of_coloring result) colors.new }
+    ensures report { report_of_coloring result ≡ (add_edge n ends.now stored.now colors.old).report }
+    ensures colors { colors.new ≡ (add_edge n ends.now stored.now colors.old).colors }
+    ensures added { EdgeAdded n ends.now stored.now colors.old (report_of_coloring result) colors.new }
 {
     let mut starts = [0u16; Graph::STARTS];
     let mut entries = [0u16; Graph::ENTRIES];

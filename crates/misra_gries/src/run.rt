@@ -21,10 +21,8 @@ pub(crate) fn run(
     marks: &mut [u16],
 ) -> Tally
     requires { Running n ends.now starts.now entries.now work.old table.old marks.old tally from }
-    ensures running { let ends = ends.entry.now in let starts = starts.entry.now in let entries = entries.entry.now in
-        Running n ends starts entries work.new table.new marks.new result (edge_count ends) }
-    ensures held { let ends = ends.entry.now in let work₀ = work.old in
-        held_of work.new result ≡ steps_from ends (edge_count ends) n (held_of work₀ tally) from (edge_count ends - from) }
+    ensures running { Running n ends.now starts.now entries.now work.new table.new marks.new result (edge_count ends.now) }
+    ensures held { held_of work.new result ≡ steps_from ends.now (edge_count ends.now) n (held_of work.old tally) from (edge_count ends.now - from) }
 {
     let m = ends.len() / 2;
     let mut so_far = tally;
@@ -58,7 +56,7 @@ pub(crate) fn days_of_tally(tally: Tally) -> usize
 
 // Days after a run. From no stored colours it leaves no gap, and the tally tells them; stored colours may have gaps, so the list is counted.
 pub(crate) fn days_after(tally: Tally, stored: usize, colors: &[u16]) -> usize
-    ensures answer { let colors = colors.entry.now in result ≡ cond (eqb stored 0) (tally_days tally) (days_of colors) }
+    ensures answer { result ≡ cond (eqb stored 0) (tally_days tally) (days_of colors.now) }
 {
     if stored == 0 {
         return days_of_tally(tally);

@@ -21,8 +21,7 @@ fn exchange_edges(
     d: Color,
 ) -> usize
     requires { Exchanging ends.now n work.old table.old node.0 c.0 d.0 }
-    ensures exchanged { let ends = ends.entry.now in let work₀ = work.old in
-        Exchanged n ends work₀ node.0 c.0 d.0 result work.new table.new }
+    ensures exchanged { Exchanged n ends.now work.old node.0 c.0 d.0 result work.new table.new }
 {
     let mut edges = [0u16; Graph::MAX_NODES];
     let mut colors = [0u16; Graph::MAX_NODES];
@@ -43,8 +42,7 @@ fn exchange_few(
     d: Color,
 ) -> usize
     requires { Exchanging ends.now n work.old table.old node.0 c.0 d.0 }
-    ensures exchanged { let ends = ends.entry.now in let work₀ = work.old in
-        Exchanged n ends work₀ node.0 c.0 d.0 result work.new table.new }
+    ensures exchanged { Exchanged n ends.now work.old node.0 c.0 d.0 result work.new table.new }
 {
     if n < 32 {
         return exchange_edges(n, ends, work, table, node, c, d);
@@ -71,8 +69,7 @@ fn exchange_path(
     d: Color,
 ) -> usize
     requires { Exchanging ends.now n work.old table.old node.0 c.0 d.0 }
-    ensures exchanged { let ends = ends.entry.now in let work₀ = work.old in
-        Exchanged n ends work₀ node.0 c.0 d.0 result work.new table.new }
+    ensures exchanged { Exchanged n ends.now work.old node.0 c.0 d.0 result work.new table.new }
 {
     if is_free(table, node, d) {
         return 0;
@@ -90,8 +87,7 @@ fn rotate_places(
     colors: &mut [u16],
 )
     requires { Rotating ends.now work.old table.old fan.now d.0 (length colors.old) }
-    ensures rotated { let ends = ends.entry.now in let work₀ = work.old in let fan = fan.entry.now in
-        Rotated ends work₀ fan d.0 work.new table.new }
+    ensures rotated { Rotated ends.now work.old fan.now d.0 work.new table.new }
 {
     let len = fan.len();
     shift_colors(work, fan, d, colors);
@@ -101,8 +97,7 @@ fn rotate_places(
 // The same. Where the fan has one place, only that takes d, and no array has to be cleared for it; up to 32 places take a short one.
 fn rotate_fan(ends: &[u16], work: &mut [u16], table: &mut [u16], fan: &[u16], d: Color)
     requires { Rotating ends.now work.old table.old fan.now d.0 512 }
-    ensures rotated { let ends = ends.entry.now in let work₀ = work.old in let fan = fan.entry.now in
-        Rotated ends work₀ fan d.0 work.new table.new }
+    ensures rotated { Rotated ends.now work.old fan.now d.0 work.new table.new }
 {
     if fan.len() == 1 {
         let colors = [d.0; 1];
@@ -130,8 +125,7 @@ fn exchange_and_rotate(
     far: NodeIndex,
 ) -> Color
     requires { Turning n ends.now work.old table.old fan.now edge.0 node.0 far.0 }
-    ensures turned { let ends = ends.entry.now in let work₀ = work.old in
-        Turned n ends work₀ edge.0 result.0 work.new table.new }
+    ensures turned { Turned n ends.now work.old edge.0 result.0 work.new table.new }
 {
     let last = fan.len() - 1;
     let end = far_end(ends, EdgeIndex(fan[last]), node);
@@ -155,9 +149,7 @@ pub(crate) fn step(
     edge: EdgeIndex,
 ) -> Color
     requires { Ready n ends.now starts.now entries.now work.old table.old marks.old edge.0 }
-    ensures stepped { let ends = ends.entry.now in let starts = starts.entry.now in let entries = entries.entry.now in
-        let work₀ = work.old in let table₀ = table.old in let marks₀ = marks.old in
-        Stepped n ends starts entries work₀ table₀ marks₀ edge.0 result.0 work.new table.new marks.new }
+    ensures stepped { Stepped n ends.now starts.now entries.now work.old table.old marks.old edge.0 result.0 work.new table.new marks.new }
 {
     let k = edge.0 as usize;
     let node = end_at(ends, 2 * k);

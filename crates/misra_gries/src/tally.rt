@@ -16,7 +16,7 @@ pub(crate) struct Tally {
 
 // The tally of stored colours, one for each edge.
 pub(crate) fn tally_of(stored: &[u16]) -> Tally
-    ensures answer { let stored = stored.entry.now in (result.edges ≡ length stored) × (result.greatest ≡ greatest_color stored) }
+    ensures answer { (result.edges ≡ length stored.now) × (result.greatest ≡ greatest_color stored.now) }
 {
     let greatest = greatest_stored(stored);
     Tally {
@@ -60,11 +60,7 @@ pub(crate) fn step_tallied(
 )
     requires ready { Ready n ends.now starts.now entries.now work.old table.old marks.old edge.0 }
     requires edges_bound { tally.old.edges + 1 < 2 ^ 64 }
-    ensures tallied { let ends = ends.entry.now in let starts = starts.entry.now in let entries = entries.entry.now in
-        let work₀ = work.old in let table₀ = table.old in let marks₀ = marks.old in
-        let tally₀ = tally.old in
-        Tallied n ends starts entries work₀ table₀ marks₀
-        edge.0 tally₀ tally.new work.new table.new marks.new }
+    ensures tallied { Tallied n ends.now starts.now entries.now work.old table.old marks.old edge.0 tally.old tally.new work.new table.new marks.new }
 {
     let color = step(n, ends, starts, entries, work, table, marks, edge);
     *tally = noted(*tally, color);
@@ -84,10 +80,7 @@ pub(crate) fn step_by_value(
 ) -> Tally
     requires ready { Ready n ends.now starts.now entries.now work.old table.old marks.old edge.0 }
     requires edges_bound { tally.edges + 1 < 2 ^ 64 }
-    ensures tallied { let ends = ends.entry.now in let starts = starts.entry.now in let entries = entries.entry.now in
-        let work₀ = work.old in let table₀ = table.old in let marks₀ = marks.old in
-        Tallied n ends starts entries work₀ table₀ marks₀
-        edge.0 tally result work.new table.new marks.new }
+    ensures tallied { Tallied n ends.now starts.now entries.now work.old table.old marks.old edge.0 tally result work.new table.new marks.new }
 {
     let mut kept = tally;
     step_tallied(

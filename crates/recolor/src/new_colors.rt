@@ -23,8 +23,7 @@ fn swapped(c: Color, d: Color, color: Color) -> Color
 
 // The edges' colours with c and d exchanged, to the front of out if it has room for all.
 pub fn swap_colors(work: &[u16], edges: &[u16], c: Color, d: Color, out: &mut [u16])
-    ensures out { let work = work.entry.now in let edges = edges.entry.now in let out₀ = out.old in
-        out.new ≡ put_front (exchanged_colors work c.0 d.0 edges) out₀ }
+    ensures out { out.new ≡ put_front (exchanged_colors work.now c.0 d.0 edges.now) out.old }
 {
     if out.len() < edges.len() {
         return;
@@ -39,8 +38,7 @@ pub fn swap_colors(work: &[u16], edges: &[u16], c: Color, d: Color, out: &mut [u
 
 // For each place of the fan the colour of the next, and for the last place this colour, to the front of out if it has room for all.
 pub fn shift_colors(work: &[u16], fan: &[u16], color: Color, out: &mut [u16])
-    ensures out { let work = work.entry.now in let fan = fan.entry.now in let out₀ = out.old in
-        out.new ≡ put_front (shifted_colors work fan color.0) out₀ }
+    ensures out { out.new ≡ put_front (shifted_colors work.now fan.now color.0) out.old }
 {
     if fan.len() == 0 {
         return;

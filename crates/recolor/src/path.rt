@@ -17,10 +17,8 @@ pub fn follow(
     second: Color,
     out: &mut [u16],
 ) -> usize
-    ensures answer { let ends = ends.entry.now in let table = table.entry.now in let out = out.entry.now in
-        result ≡ length (table_path ends table (length out) node.0 first.0 second.0) }
-    ensures out { let ends = ends.entry.now in let table = table.entry.now in let out₀ = out.old in
-        out.new ≡ over (table_path ends table (length out₀) node.0 first.0 second.0) out₀ }
+    ensures answer { result ≡ length (table_path ends.now table.now (length out.old) node.0 first.0 second.0) }
+    ensures out { out.new ≡ over (table_path ends.now table.now (length out.old) node.0 first.0 second.0) out.old }
 {
     let mut end = node;
     let mut color = first;

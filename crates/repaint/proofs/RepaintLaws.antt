@@ -370,6 +370,7 @@ cleared_other l (k ∷ ks) j n = cleared_other (set l k no_color) ks j (λ p. n 
 
 cleared_same : (l ks : List ℕ) (j : ℕ) → Mem j ks → j < length l → color_of (cleared l ks) j ≡ no_color
 unfolding cleared
+cleared_same l [] j p h = elim p [ ]
 cleared_same l (k ∷ ks) j p h = elim (dec_mem j ks) [
   | inl q ↦ cleared_same (set l k no_color) ks j q (rw (length-set l k no_color) h)
   | inr n ↦ cleared_other (set l k no_color) ks j n ∙ (elim p [ inl z ↦ rw z (color_set_same l k no_color (rw z at h)) | inr q ↦ absurd (n q) ])

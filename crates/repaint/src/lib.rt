@@ -25,8 +25,7 @@ fn enter(table: &mut [u16], node: NodeIndex, color: Color, entry: Entry)
 }
 
 fn enter_at_ends(ends: &[u16], table: &mut [u16], edge: EdgeIndex, color: Color, entry: Entry)
-    ensures table { let ends = ends.entry.now in let table₀ = table.old in
-        table.new ≡ entered_at_ends ends table₀ edge.0 color.0 entry.0 }
+    ensures table { table.new ≡ entered_at_ends ends.now table.old edge.0 color.0 entry.0 }
 {
     let k = edge.0 as usize;
     let first = end_at(ends, 2 * k);
@@ -47,9 +46,7 @@ fn set_color(work: &mut [u16], edge: EdgeIndex, color: Color)
 
 // The edge loses its colour. Without one there is nothing to clear: none has no place in the table.
 fn uncolor(ends: &[u16], work: &mut [u16], table: &mut [u16], edge: EdgeIndex)
-    ensures state { let ends = ends.entry.now in let work₀ = work.old in let table₀ = table.old in
-        state work.new table.new
-        ≡ uncolored ends (state work₀ table₀) edge.0 }
+    ensures state { state work.new table.new ≡ uncolored ends.now (state work.old table.old) edge.0 }
 {
     let color = color_of(work, edge);
     enter_at_ends(ends, table, edge, color, Entry(Entry::NONE));
@@ -58,19 +55,14 @@ fn uncolor(ends: &[u16], work: &mut [u16], table: &mut [u16], edge: EdgeIndex)
 
 // The edge, which has no colour, takes this one.
 pub fn color_edge(ends: &[u16], work: &mut [u16], table: &mut [u16], edge: EdgeIndex, color: Color)
-    ensures state { let ends = ends.entry.now in let work₀ = work.old in let table₀ = table.old in
-        state work.new table.new
-        ≡ colored ends (state work₀ table₀) edge.0 color.0 }
+    ensures state { state work.new table.new ≡ colored ends.now (state work.old table.old) edge.0 color.0 }
 {
     enter_at_ends(ends, table, edge, color, Entry(edge.0));
     set_color(work, edge, color);
 }
 
 fn uncolor_all(ends: &[u16], work: &mut [u16], table: &mut [u16], edges: &[u16])
-    ensures state { let ends = ends.entry.now in let work₀ = work.old in let table₀ = table.old in
-        let edges = edges.entry.now in
-        state work.new table.new
-        ≡ all_uncolored ends (state work₀ table₀) edges }
+    ensures state { state work.new table.new ≡ all_uncolored ends.now (state work.old table.old) edges.now }
 {
     let mut i = 0;
     while i < edges.len() {
@@ -80,10 +72,7 @@ fn uncolor_all(ends: &[u16], work: &mut [u16], table: &mut [u16], edges: &[u16])
 }
 
 fn color_all(ends: &[u16], work: &mut [u16], table: &mut [u16], edges: &[u16], colors: &[u16])
-    ensures state { let ends = ends.entry.now in let work₀ = work.old in let table₀ = table.old in
-        let edges = edges.entry.now in let colors = colors.entry.now in
-        state work.new table.new
-        ≡ all_colored ends (state work₀ table₀) edges colors }
+    ensures state { state work.new table.new ≡ all_colored ends.now (state work.old table.old) edges.now colors.now }
 {
     let mut i = 0;
     while i < edges.len() {
@@ -97,10 +86,7 @@ fn color_all(ends: &[u16], work: &mut [u16], table: &mut [u16], edges: &[u16], c
 
 // The edges take these colours in place of their own. All lose theirs first: an edge's new colour may still stand on the next.
 pub fn repaint(ends: &[u16], work: &mut [u16], table: &mut [u16], edges: &[u16], colors: &[u16])
-    ensures state { let ends = ends.entry.now in let work₀ = work.old in let table₀ = table.old in
-        let edges = edges.entry.now in let colors = colors.entry.now in
-        state work.new table.new
-        ≡ repainted ends (state work₀ table₀) edges colors }
+    ensures state { state work.new table.new ≡ repainted ends.now (state work.old table.old) edges.now colors.now }
 {
     uncolor_all(ends, work, table, edges);
     color_all(ends, work, table, edges, colors);

@@ -65,12 +65,8 @@ pub fn color_stored(
     work: &mut [u16],
     table: &mut [u16],
 ) -> bool
-    ensures answer { let ends = ends.entry.now in let stored = stored.entry.now in
-        let work₀ = work.old in let table₀ = table.old in
-        result ≡ (color_stored ends stored limit (state work₀ table₀)).all }
-    ensures state { let ends = ends.entry.now in let stored = stored.entry.now in
-        let work₀ = work.old in let table₀ = table.old in
-        state work.new table.new ≡ (color_stored ends stored limit (state work₀ table₀)).state }
+    ensures answer { result ≡ (color_stored ends.now stored.now limit (state work.old table.old)).all }
+    ensures state { state work.new table.new ≡ (color_stored ends.now stored.now limit (state work.old table.old)).state }
 {
     if stored.len() > Graph::MAX_EDGES {
         return false;
