@@ -1,0 +1,49 @@
+-- `read_graph_file` meets its contract: one law for each answer, every element being a byte.
+use mir.Syntax.{w8}
+use mir.Val.{Fits}
+use lib.ListN.{get_or}
+use mathlib.Core.List.{List}
+use Prim.Native.Nat.{ℕ}
+use mathlib.Core.Path.{◌≡◌}
+use mathlib.Core.Bool.{true}
+use native.Mathlib.Omega.{arith}
+use Rattle.lists.specs.Search.{all_below}
+use Rattle.lists.proofs.SearchLaws.{below_all}
+use Rattle.graph_file.proofs.CallLaws.{answer_bad, answer_short_ends, answer_short_colors, answer_read, edges_most, ends_inside, colors_inside}
+use Rattle.graph_file.proofs.read_graph_file.Goals as goal
+
+bytes_below : (bytes : List ℕ) → ((i : ℕ) → Fits w8 (get_or bytes i 0)) → all_below 256 bytes ≡ true
+bytes_below bytes fits = below_all 256 bytes (λ i h. omega (arith, fits i))
+
+pub returns-in-Malformed : goal.returns-in-Malformed
+returns-in-Malformed c = let s = c.args in let all_parts = answer_bad _ s.ends.now s.colors.now (bytes_below _ c.type_inv.bytes) _ c.layout_of.ensures.answer c.in-Malformed.is in record { report = all_parts.0; ends = all_parts.1.0; colors = all_parts.1.1.0; layout = all_parts.1.1.1 }
+
+pub overflow_mul-edges : goal.overflow_mul-edges
+overflow_mul-edges c = let s = c.args in
+    omega (arith, edges_most _ s.ends.now s.colors.now (bytes_below _ c.type_inv.bytes) _ c.layout_of.ensures.answer _ c.in-Saved.is)
+
+pub returns-then-ends-edges : goal.returns-then-ends-edges
+returns-then-ends-edges c = let s = c.args in let all_parts = answer_short_ends _ s.ends.now s.colors.now (bytes_below _ c.type_inv.bytes) _ c.layout_of.ensures.answer _ c.in-Saved.is c.if-ends-edges.true in record { report = all_parts.0; ends = all_parts.1.0; colors = all_parts.1.1.0; layout = all_parts.1.1.1 }
+
+pub colors_place-place-requires : goal.colors_place-place-requires
+colors_place-place-requires c = let s = c.args in
+    edges_most _ s.ends.now s.colors.now (bytes_below _ c.type_inv.bytes) _ c.layout_of.ensures.answer _ c.in-Saved.is
+
+pub returns-then-colors-count : goal.returns-then-colors-count
+returns-then-colors-count c = let s = c.args in let all_parts = answer_short_colors _ s.ends.now s.colors.now (bytes_below _ c.type_inv.bytes) _ c.layout_of.ensures.answer _ c.in-Saved.is _ _ c.colors_place-place.ensures.answer c.if-colors-count.true in record { report = all_parts.0; ends = all_parts.1.0; colors = all_parts.1.1.0; layout = all_parts.1.1.1 }
+
+pub slice_bounds-copy_numbers-end : goal.slice_bounds-copy_numbers-end
+slice_bounds-copy_numbers-end c = let s = c.args in
+    omega (arith, ends_inside _ s.ends.now s.colors.now (bytes_below _ c.type_inv.bytes) _ c.layout_of.ensures.answer _ c.in-Saved.is)
+
+pub overflow_add-start : goal.overflow_add-start
+overflow_add-start c = let s = c.args in
+    omega (arith, colors_inside _ s.ends.now s.colors.now (bytes_below _ c.type_inv.bytes) _ c.layout_of.ensures.answer _ c.in-Saved.is _ _ c.colors_place-place.ensures.answer)
+
+pub slice_bounds-copy_numbers-end-in-Saved : goal.slice_bounds-copy_numbers-end-in-Saved
+slice_bounds-copy_numbers-end-in-Saved c = let s = c.args in
+    omega (arith, colors_inside _ s.ends.now s.colors.now (bytes_below _ c.type_inv.bytes) _ c.layout_of.ensures.answer _ c.in-Saved.is _ _ c.colors_place-place.ensures.answer)
+
+pub returns : goal.returns
+returns c = let s = c.args in let all_parts = answer_read _ s.ends.now s.colors.now (bytes_below _ c.type_inv.bytes) _ c.layout_of.ensures.answer _ c.in-Saved.is _ _ c.colors_place-place.ensures.answer
+    c.if-ends-edges.false c.if-colors-count.false _ _ c.copy_numbers.ensures.list c.copy_numbers-in-Saved.ensures.list in record { report = all_parts.0; ends = all_parts.1.0; colors = all_parts.1.1.0; layout = all_parts.1.1.1 }
