@@ -22,21 +22,31 @@ fn strategy_of(number: usize) -> ColoringStrategy {
     ColoringStrategy::IndependentSet
 }
 
-fn put_name(text: &mut [u8], waiting: usize, name: Name) -> usize {
+fn put_name(rt: &impl Print, text: &mut [u8], waiting: usize, name: Name) -> usize {
     match name {
-        Name::GreedyNodeColor => put_all(text, waiting, b"greedy_node_color"),
+        Name::GreedyNodeColor => put_all(rt, text, waiting, b"greedy_node_color"),
         Name::GreedyNodeColorWithPresetColors => {
-            put_all(text, waiting, b"greedy_node_color_with_preset_colors")
+            put_all(rt, text, waiting, b"greedy_node_color_with_preset_colors")
         }
         Name::GreedyNodeColorWithColoringStrategy => {
-            put_all(text, waiting, b"greedy_node_color_with_coloring_strategy")
+            put_all(
+                rt,
+                text,
+                waiting,
+                b"greedy_node_color_with_coloring_strategy",
+            )
         }
-        Name::GreedyEdgeColor => put_all(text, waiting, b"greedy_edge_color"),
+        Name::GreedyEdgeColor => put_all(rt, text, waiting, b"greedy_edge_color"),
         Name::GreedyEdgeColorWithColoringStrategy => {
-            put_all(text, waiting, b"greedy_edge_color_with_coloring_strategy")
+            put_all(
+                rt,
+                text,
+                waiting,
+                b"greedy_edge_color_with_coloring_strategy",
+            )
         }
-        Name::MisraGriesAddEdge => put_all(text, waiting, b"misra_gries_add_edge"),
-        _ => put_all(text, waiting, b"misra_gries_edge_color"),
+        Name::MisraGriesAddEdge => put_all(rt, text, waiting, b"misra_gries_add_edge"),
+        _ => put_all(rt, text, waiting, b"misra_gries_edge_color"),
     }
 }
 
@@ -64,6 +74,7 @@ fn color(n: usize, ends: &[u16], presets: &[u16], line: Line, colors: &mut [u16]
 
 // A greedy colouring or Misra-Gries, with so many colours lent.
 fn call_coloring(
+    rt: &impl Print,
     text: &mut [u8],
     waiting: usize,
     n: usize,
@@ -78,23 +89,30 @@ fn call_coloring(
     lend(colors);
     let answer = color(n, ends, presets, line, colors);
     let name = line.name;
-    let end = put_name(text, waiting, name);
-    put_colored(text, end, b"", answer, colors)
+    let end = put_name(rt, text, waiting, name);
+    put_colored(rt, text, end, b"", answer, colors)
 }
 
 // As much of the text as was lent, then an empty line.
-fn put_matchdays(text: &mut [u8], waiting: usize, file: &[u8], page: &mut [u8]) -> usize {
+fn put_matchdays(
+    rt: &impl Print,
+    text: &mut [u8],
+    waiting: usize,
+    file: &[u8],
+    page: &mut [u8],
+) -> usize {
     lend_bytes(page);
     let length = matchday_text::matchday_text(file, page);
-    let end = put_report(text, waiting, b"matchdays", b"length", length as u64);
-    let end = put(text, end, b'\n');
+    let end = put_report(rt, text, waiting, b"matchdays", b"length", length as u64);
+    let end = put(rt, text, end, b'\n');
     let shown = cut_bytes(length, page);
-    let end = put_all(text, end, &page[..shown]);
-    put(text, end, b'\n')
+    let end = put_all(rt, text, end, &page[..shown]);
+    put(rt, text, end, b'\n')
 }
 
 // A line that is none of it prints nothing.
 fn call_matchdays(
+    rt: &impl Print,
     text: &mut [u8],
     waiting: usize,
     file: &[u8],
@@ -105,7 +123,7 @@ fn call_matchdays(
     match name {
         Name::Matchdays => {
             let c = cut_bytes(line.first, bytes);
-            put_matchdays(text, waiting, file, &mut bytes[..c])
+            put_matchdays(rt, text, waiting, file, &mut bytes[..c])
         }
         _ => waiting,
     }
@@ -113,6 +131,7 @@ fn call_matchdays(
 
 // A strategy's number comes before that of the colours. A line that is no colouring prints nothing.
 fn call_colorings(
+    rt: &impl Print,
     text: &mut [u8],
     waiting: usize,
     n: usize,
@@ -124,14 +143,14 @@ fn call_colorings(
     let name = line.name;
     match name {
         Name::GreedyNodeColorWithColoringStrategy | Name::GreedyEdgeColorWithColoringStrategy => {
-            call_coloring(text, waiting, n, ends, presets, line, line.second, list)
+            call_coloring(rt, text, waiting, n, ends, presets, line, line.second, list)
         }
         Name::GreedyNodeColor
         | Name::GreedyNodeColorWithPresetColors
         | Name::GreedyEdgeColor
         | Name::MisraGriesEdgeColor
         | Name::MisraGriesAddEdge => {
-            call_coloring(text, waiting, n, ends, presets, line, line.first, list)
+            call_coloring(rt, text, waiting, n, ends, presets, line, line.first, list)
         }
         _ => waiting,
     }
@@ -139,6 +158,7 @@ fn call_colorings(
 
 // The line's call, on as much of each slice as was read: only one of these is the line's.
 pub(crate) fn call(
+    rt: &impl Print,
     text: &mut [u8],
     waiting: usize,
     line: Line,
@@ -158,8 +178,8 @@ pub(crate) fn call(
     let f = cut_bytes(sizes.file, file);
     let file = &file[..f];
     let end = replay_calls::call(
-        text, waiting, n, ends, presets, line, list, entries, bytes, file,
+        rt, text, waiting, n, ends, presets, line, list, entries, bytes, file,
     );
-    let end = call_colorings(text, end, n, ends, presets, line, list);
-    call_matchdays(text, end, file, line, bytes)
+    let end = call_colorings(rt, text, end, n, ends, presets, line, list);
+    call_matchdays(rt, text, end, file, line, bytes)
 }

@@ -8,6 +8,7 @@ use replay_input::{Cursor, Sizes, read_line};
 use replay_output::flush;
 
 fn run(
+    rt: &(impl Input + Print),
     buffer: &mut [u8],
     text: &mut [u8],
     ends: &mut [u16],
@@ -17,21 +18,21 @@ fn run(
     bytes: &mut [u8],
     file: &mut [u8],
 ) {
-    let mut input = Cursor::start(buffer);
+    let mut input = Cursor::start(rt, buffer);
     let mut waiting = 0;
     let mut sizes = Sizes::none();
     while input.left > 0 {
-        let line = read_line(buffer, input, ends, presets, list, entries, file);
+        let line = read_line(rt, buffer, input, ends, presets, list, entries, file);
         sizes = sizes.after(line);
         waiting = call(
-            text, waiting, line, sizes, ends, presets, list, entries, bytes, file,
+            rt, text, waiting, line, sizes, ends, presets, list, entries, bytes, file,
         );
         input = line.next;
     }
-    flush(text, waiting);
+    flush(rt, text, waiting);
 }
 
-fn main() {
+fn main(rt: HostRuntime) {
     let mut buffer = [0u8; 4096];
     let mut text = [0u8; 4096];
     let mut ends = [0u16; 8400];
@@ -41,6 +42,7 @@ fn main() {
     let mut bytes = [0u8; 100000];
     let mut file = [0u8; 33000];
     run(
+        &rt,
         &mut buffer,
         &mut text,
         &mut ends,

@@ -19,6 +19,7 @@ mod report;
 pub use report::put_colored;
 
 fn call_incidence(
+    rt: &impl Print,
     text: &mut [u8],
     waiting: usize,
     n: usize,
@@ -34,15 +35,16 @@ fn call_incidence(
     lend(starts);
     lend(entries);
     let answer = incidence::incidence(n, ends, starts, entries);
-    let end = put_incidence(text, waiting, answer);
-    let end = put_list(text, end, starts);
-    let end = put(text, end, b';');
-    let end = put_list(text, end, entries);
-    put(text, end, b'\n')
+    let end = put_incidence(rt, text, waiting, answer);
+    let end = put_list(rt, text, end, starts);
+    let end = put(rt, text, end, b';');
+    let end = put_list(rt, text, end, entries);
+    put(rt, text, end, b'\n')
 }
 
 // The table is the line's own, and nothing is lent.
 fn call_edges_at(
+    rt: &impl Print,
     text: &mut [u8],
     waiting: usize,
     line: Line,
@@ -52,13 +54,14 @@ fn call_edges_at(
     let s = cut(line.second, list);
     let e = cut(line.third, entries);
     let edges = edges_at(&list[..s], &entries[..e], NodeIndex(narrow(line.first)));
-    let end = put_all(text, waiting, b"edges_at:");
-    let end = put_part(text, end, edges);
-    put(text, end, b'\n')
+    let end = put_all(rt, text, waiting, b"edges_at:");
+    let end = put_part(rt, text, end, edges);
+    put(rt, text, end, b'\n')
 }
 
 // A walk over one node's edges in the graph's own table. A graph that is refused leaves the slices as lent, which give no edges.
 fn call_edge_walk(
+    rt: &impl Print,
     text: &mut [u8],
     waiting: usize,
     n: usize,
@@ -74,12 +77,13 @@ fn call_edge_walk(
     lend(starts);
     lend(entries);
     incidence::incidence(n, ends, starts, entries);
-    let end = put_all(text, waiting, b"edge_walk:");
+    let end = put_all(rt, text, waiting, b"edge_walk:");
     let node = NodeIndex(narrow(line.first));
-    put_walk(text, end, starts, entries, node, line.second)
+    put_walk(rt, text, end, starts, entries, node, line.second)
 }
 
 fn call_two_color(
+    rt: &impl Print,
     text: &mut [u8],
     waiting: usize,
     n: usize,
@@ -91,12 +95,13 @@ fn call_two_color(
     let colors = &mut bytes[..c];
     lend_bytes(colors);
     let answer = two_color::two_color(n, ends, colors);
-    let end = put_coloring(text, waiting, b"two_color", answer);
-    let end = put_bytes(text, end, colors);
-    put(text, end, b'\n')
+    let end = put_coloring(rt, text, waiting, b"two_color", answer);
+    let end = put_bytes(rt, text, end, colors);
+    put(rt, text, end, b'\n')
 }
 
 fn call_line_graph(
+    rt: &impl Print,
     text: &mut [u8],
     waiting: usize,
     n: usize,
@@ -108,14 +113,15 @@ fn call_line_graph(
     let pairs = &mut list[..c];
     lend(pairs);
     let answer = line_graph::line_graph(n, ends, pairs);
-    let end = put_line_list(text, waiting, answer);
-    let end = put_list(text, end, pairs);
-    put(text, end, b'\n')
+    let end = put_line_list(rt, text, waiting, answer);
+    let end = put_list(rt, text, end, pairs);
+    put(rt, text, end, b'\n')
 }
 
 // Both lists are the line's own, under one lifetime since either may be handed out. One call says which list and how long the part is, the other
 // hands out its numbers.
 fn call_fewer_days<'a>(
+    rt: &impl Print,
     text: &mut [u8],
     waiting: usize,
     line: Line,
@@ -127,12 +133,13 @@ fn call_fewer_days<'a>(
     let first = &list[..f];
     let second = &entries[..s];
     let part = fewer_days_part(first, second, line.first);
-    let end = put_leading_part(text, waiting, part);
-    let end = put_part(text, end, fewer_days(first, second, line.first));
-    put(text, end, b'\n')
+    let end = put_leading_part(rt, text, waiting, part);
+    let end = put_part(rt, text, end, fewer_days(first, second, line.first));
+    put(rt, text, end, b'\n')
 }
 
 fn call_read_file(
+    rt: &impl Print,
     text: &mut [u8],
     waiting: usize,
     file: &[u8],
@@ -147,15 +154,16 @@ fn call_read_file(
     lend(ends);
     lend(colors);
     let answer = graph_file::read_graph_file(file, ends, colors);
-    let end = put_file(text, waiting, answer);
-    let end = put_list(text, end, ends);
-    let end = put(text, end, b';');
-    let end = put_list(text, end, colors);
-    put(text, end, b'\n')
+    let end = put_file(rt, text, waiting, answer);
+    let end = put_list(rt, text, end, ends);
+    let end = put(rt, text, end, b';');
+    let end = put_list(rt, text, end, colors);
+    put(rt, text, end, b'\n')
 }
 
 // The colours are those of the presets line.
 fn call_write_file(
+    rt: &impl Print,
     text: &mut [u8],
     waiting: usize,
     n: usize,
@@ -170,13 +178,14 @@ fn call_write_file(
     let tags = narrow_byte(line.first);
     let method = narrow_byte(line.second);
     let answer = write_graph_file::write_graph_file(n, ends, colors, tags, method, output);
-    let end = put_written(text, waiting, answer);
-    let end = put_bytes(text, end, output);
-    put(text, end, b'\n')
+    let end = put_written(rt, text, waiting, answer);
+    let end = put_bytes(rt, text, end, output);
+    put(rt, text, end, b'\n')
 }
 
 // The line's call; a line that is none of these prints nothing.
 pub fn call(
+    rt: &impl Print,
     text: &mut [u8],
     waiting: usize,
     n: usize,
@@ -190,14 +199,14 @@ pub fn call(
 ) -> usize {
     let name = line.name;
     match name {
-        Name::Incidence => call_incidence(text, waiting, n, ends, line, list, entries),
-        Name::EdgesAt => call_edges_at(text, waiting, line, list, entries),
-        Name::EdgeWalk => call_edge_walk(text, waiting, n, ends, line, list, entries),
-        Name::TwoColor => call_two_color(text, waiting, n, ends, line, bytes),
-        Name::LineGraph => call_line_graph(text, waiting, n, ends, line, list),
-        Name::FewerDays => call_fewer_days(text, waiting, line, list, entries),
-        Name::ReadGraphFile => call_read_file(text, waiting, file, line, list, entries),
-        Name::WriteGraphFile => call_write_file(text, waiting, n, ends, presets, line, bytes),
+        Name::Incidence => call_incidence(rt, text, waiting, n, ends, line, list, entries),
+        Name::EdgesAt => call_edges_at(rt, text, waiting, line, list, entries),
+        Name::EdgeWalk => call_edge_walk(rt, text, waiting, n, ends, line, list, entries),
+        Name::TwoColor => call_two_color(rt, text, waiting, n, ends, line, bytes),
+        Name::LineGraph => call_line_graph(rt, text, waiting, n, ends, line, list),
+        Name::FewerDays => call_fewer_days(rt, text, waiting, line, list, entries),
+        Name::ReadGraphFile => call_read_file(rt, text, waiting, file, line, list, entries),
+        Name::WriteGraphFile => call_write_file(rt, text, waiting, n, ends, presets, line, bytes),
         _ => waiting,
     }
 }

@@ -7,63 +7,84 @@ use line_graph::LineList;
 use replay_output::{put, put_all, put_list, put_number, put_report};
 use write_graph_file::WriteAnswer;
 
-fn put_refused(text: &mut [u8], waiting: usize, name: &[u8], refusal: Refusal) -> usize {
-    put_report(text, waiting, name, b"refused", refusal.number() as u64)
+fn put_refused(
+    rt: &impl Print,
+    text: &mut [u8],
+    waiting: usize,
+    name: &[u8],
+    refusal: Refusal,
+) -> usize {
+    put_report(rt, text, waiting, name, b"refused", refusal.number() as u64)
 }
 
 pub(crate) fn put_coloring(
+    rt: &impl Print,
     text: &mut [u8],
     waiting: usize,
     name: &[u8],
     answer: Coloring,
 ) -> usize {
     match answer {
-        Coloring::Accepted { days } => put_report(text, waiting, name, b"days", days as u64),
-        Coloring::Refused(refusal) => put_refused(text, waiting, name, refusal),
+        Coloring::Accepted { days } => put_report(rt, text, waiting, name, b"days", days as u64),
+        Coloring::Refused(refusal) => put_refused(rt, text, waiting, name, refusal),
     }
 }
 
 // A colouring's report and its slice.
 pub fn put_colored(
+    rt: &impl Print,
     text: &mut [u8],
     waiting: usize,
     name: &[u8],
     answer: Coloring,
     colors: &[u16],
 ) -> usize {
-    let end = put_coloring(text, waiting, name, answer);
-    let end = put_list(text, end, colors);
-    put(text, end, b'\n')
+    let end = put_coloring(rt, text, waiting, name, answer);
+    let end = put_list(rt, text, end, colors);
+    put(rt, text, end, b'\n')
 }
 
-pub(crate) fn put_line_list(text: &mut [u8], waiting: usize, answer: LineList) -> usize {
+pub(crate) fn put_line_list(
+    rt: &impl Print,
+    text: &mut [u8],
+    waiting: usize,
+    answer: LineList,
+) -> usize {
     match answer {
         LineList::Accepted { pairs } => put_report(
+            rt,
             text,
             waiting,
             b"line_graph",
             b"pairs",
             pairs as u64,
         ),
-        LineList::Refused(refusal) => put_refused(text, waiting, b"line_graph", refusal),
+        LineList::Refused(refusal) => put_refused(rt, text, waiting, b"line_graph", refusal),
     }
 }
 
-pub(crate) fn put_incidence(text: &mut [u8], waiting: usize, answer: IncidenceAnswer) -> usize {
+pub(crate) fn put_incidence(
+    rt: &impl Print,
+    text: &mut [u8],
+    waiting: usize,
+    answer: IncidenceAnswer,
+) -> usize {
     match answer {
         IncidenceAnswer::Accepted { total } => put_report(
+            rt,
             text,
             waiting,
             b"incidence",
             b"total",
             total as u64,
         ),
-        IncidenceAnswer::Refused(refusal) => put_refused(text, waiting, b"incidence", refusal),
+        IncidenceAnswer::Refused(refusal) => put_refused(rt, text, waiting, b"incidence", refusal),
     }
 }
 
 // What a walk meets from this place on, each step at the place that the one before gave, and the word that says the end.
 pub(crate) fn put_walk(
+    rt: &impl Print,
     text: &mut [u8],
     waiting: usize,
     starts: &[u16],
@@ -76,12 +97,12 @@ pub(crate) fn put_walk(
     loop {
         match edge_at(starts, entries, node, at) {
             WalkStep::End => {
-                end = put_all(text, end, b" end");
-                return put(text, end, b'\n');
+                end = put_all(rt, text, end, b" end");
+                return put(rt, text, end, b'\n');
             }
             WalkStep::Edge(edge, next) => {
-                end = put(text, end, b' ');
-                end = put_number(text, end, edge.0 as u64);
+                end = put(rt, text, end, b' ');
+                end = put_number(rt, text, end, edge.0 as u64);
                 at = next;
             }
         }
@@ -89,15 +110,21 @@ pub(crate) fn put_walk(
 }
 
 // Which of two lists, and how many of its first numbers.
-pub(crate) fn put_leading_part(text: &mut [u8], waiting: usize, part: LeadingPart) -> usize {
+pub(crate) fn put_leading_part(
+    rt: &impl Print,
+    text: &mut [u8],
+    waiting: usize,
+    part: LeadingPart,
+) -> usize {
     let length = part.length as u64;
     if part.second {
-        return put_report(text, waiting, b"fewer_days second", b"length", length);
+        return put_report(rt, text, waiting, b"fewer_days second", b"length", length);
     }
-    put_report(text, waiting, b"fewer_days first", b"length", length)
+    put_report(rt, text, waiting, b"fewer_days first", b"length", length)
 }
 
 fn put_read(
+    rt: &impl Print,
     text: &mut [u8],
     waiting: usize,
     nodes: u64,
@@ -105,16 +132,21 @@ fn put_read(
     tags: u64,
     method: u64,
 ) -> usize {
-    let end = put_all(text, waiting, b"read_graph_file nodes ");
-    let end = put_number(text, end, nodes);
-    let end = put_all(text, end, b" edges ");
-    let end = put_number(text, end, edges);
-    let end = put_all(text, end, b" tags ");
-    let end = put_number(text, end, tags);
-    put_report(text, end, b"", b"method", method)
+    let end = put_all(rt, text, waiting, b"read_graph_file nodes ");
+    let end = put_number(rt, text, end, nodes);
+    let end = put_all(rt, text, end, b" edges ");
+    let end = put_number(rt, text, end, edges);
+    let end = put_all(rt, text, end, b" tags ");
+    let end = put_number(rt, text, end, tags);
+    put_report(rt, text, end, b"", b"method", method)
 }
 
-pub(crate) fn put_file(text: &mut [u8], waiting: usize, answer: FileAnswer) -> usize {
+pub(crate) fn put_file(
+    rt: &impl Print,
+    text: &mut [u8],
+    waiting: usize,
+    answer: FileAnswer,
+) -> usize {
     match answer {
         FileAnswer::Accepted {
             nodes,
@@ -122,6 +154,7 @@ pub(crate) fn put_file(text: &mut [u8], waiting: usize, answer: FileAnswer) -> u
             tags,
             method,
         } => put_read(
+            rt,
             text,
             waiting,
             nodes as u64,
@@ -129,19 +162,31 @@ pub(crate) fn put_file(text: &mut [u8], waiting: usize, answer: FileAnswer) -> u
             tags as u64,
             method as u64,
         ),
-        FileAnswer::Refused(refusal) => put_refused(text, waiting, b"read_graph_file", refusal),
+        FileAnswer::Refused(refusal) => put_refused(rt, text, waiting, b"read_graph_file", refusal),
     }
 }
 
-pub(crate) fn put_written(text: &mut [u8], waiting: usize, answer: WriteAnswer) -> usize {
+pub(crate) fn put_written(
+    rt: &impl Print,
+    text: &mut [u8],
+    waiting: usize,
+    answer: WriteAnswer,
+) -> usize {
     match answer {
         WriteAnswer::Accepted { length } => put_report(
+            rt,
             text,
             waiting,
             b"write_graph_file",
             b"length",
             length as u64,
         ),
-        WriteAnswer::Refused(refusal) => put_refused(text, waiting, b"write_graph_file", refusal),
+        WriteAnswer::Refused(refusal) => put_refused(
+            rt,
+            text,
+            waiting,
+            b"write_graph_file",
+            refusal,
+        ),
     }
 }
