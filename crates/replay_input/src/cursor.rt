@@ -5,7 +5,7 @@ use std::io::Read;
 
 // A place in the input: its byte, which of the buffer's bytes come next, and how many bytes may still be read. No contract can
 // say that an input ends, so every loop over it ends by that number, which is 0 once the input has ended.
-#[derive(Drop)]
+#[derive(Clone, Copy)]
 pub struct Cursor {
     pub byte: u8,
     pub at: usize,

@@ -6,7 +6,7 @@ use crate::input::{read_bytes, read_list, read_number};
 use crate::names::{Name, read_name};
 
 // A line's name, its numbers without those of its lists, and where the next line begins.
-#[derive(Drop)]
+#[derive(Clone, Copy)]
 pub struct Line {
     pub name: Name,
     pub first: usize,
@@ -16,7 +16,7 @@ pub struct Line {
 }
 
 // What the graph, presets and file lines above said: the node count, and how many ends, presets and bytes of a file there are.
-#[derive(Drop)]
+#[derive(Clone, Copy)]
 pub struct Sizes {
     pub nodes: usize,
     pub ends: usize,

@@ -4,7 +4,7 @@ ghost use Rattle.std.specs.Prelude.{◌≡◌, true, ◌≤◌};
 use crate::cursor::Cursor;
 use crate::input::read_word;
 
-#[derive(Drop)]
+#[derive(Clone, Copy)]
 pub enum Name {
     Graph,
     Presets,
