@@ -18,7 +18,7 @@ use Rattle.graph.specs.Stretch.{stretch}
 use Rattle.vizing.specs.MisraGries.{greatest_color}
 use Rattle.vizing.proofs.Tally.{greatest_none, greatest_uncolored, greatest_colored}
 use Rattle.edge_table.specs.EdgeTable.{is_empty}
-use Rattle.repaint.specs.Repaint.{State, state, colored}
+use Rattle.repaint.specs.Repaint.{State, colored}
 use Rattle.stored_colors.specs.Stored.{longest_stretch, may_take, Stored, stored_from, color_stored}
 
 -- ---- the lengths
