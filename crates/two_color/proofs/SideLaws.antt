@@ -9,15 +9,13 @@ use native.Mathlib.Nat.{not-suc-le-zero}
 use lib.ListN.{length, get_or}
 use lib.Dec.{eqb, ltb}
 use borrow.Author.Tests.{lt-ltb, le-ltb, ltb-true, ltb-false, eq-eqb, eqb-true, eqb-false}
-use Rattle.lists.proofs.Tests.{by-test, dec_eq, and-true, or_true, true_or, or_false}
+use Rattle.lists.proofs.Tests.{by-test, dec_eq, and_true, or_true, true_or, or_false}
 use Rattle.lists.proofs.SearchLaws.{length_tabulate, tabulate_at}
 use Rattle.graph.specs.Edges.{first_end, second_end, far_end, At}
 use Rattle.graph.proofs.EdgeLaws.{far_first, far_second}
 use Rattle.two_color.specs.Walk.{is_odd, Walk, stay, along, OddClosedWalk}
 use Rattle.two_color.proofs.WalkLaws.{false_xor, xor_false, not_xor, xor_not, WalkOf, walk_first, walk_second, walk_widen, of_append, of_reverse, of_widen, of_edge}
 use Rattle.two_color.specs.Sides.{lower, gives_way, lowest, odd_side, odd_cycle, side_color, sides}
--- No name of it is used: the rows are to be checked before the laws, so that a wrong definition is refused for what it gives.
-use Rattle.two_color.specs.Examples
 
 -- ---- the lower of two, and which gives way to it
 
@@ -31,14 +29,14 @@ lower_le a b = by-test (ltb a b) (λ t. simp t (omega arith, omega (arith, ltb-t
 
 gives_above : (a b r : ℕ) → gives_way a b r ≡ true → lower a b < r
 unfolding gives_way
-gives_above a b r e = ltb-true (lower a b) r (and-true (eqb r a || eqb r b) (ltb (lower a b) r) e).1
+gives_above a b r e = ltb-true (lower a b) r (and_true (eqb r a || eqb r b) (ltb (lower a b) r) e).1
 
 -- One of the two gives way to the other.
 gives_other : (a b r : ℕ) → gives_way a b r ≡ true → ((r ≡ a) × (lower a b ≡ b)) ⊎ ((r ≡ b) × (lower a b ≡ a))
 unfolding gives_way
 gives_other a b r e =
     let h = gives_above a b r e in
-    elim (or_true (eqb r a) (eqb r b) (and-true (eqb r a || eqb r b) (ltb (lower a b) r) e).0) [
+    elim (or_true (eqb r a) (eqb r b) (and_true (eqb r a || eqb r b) (ltb (lower a b) r) e).0) [
       | inl t ↦ let p = eqb-true r a t in inl (p, elim (lower_either a b) [ inl o ↦ let z : ⊥ = omega arith in absurd z | inr o ↦ o ])
       | inr t ↦ let p = eqb-true r b t in inr (p, elim (lower_either a b) [ inl o ↦ o | inr o ↦ let z : ⊥ = omega arith in absurd z ])
     ]
@@ -193,7 +191,7 @@ module _ (ends : List ℕ) (k : ℕ) where
     -- An edge inside one side of a component closes a walk of odd length.
     met_closed : eqb low_first low_second && same ≡ true → OddClosedWalk ends (suc k)
     met_closed e =
-        let p = and-true (eqb low_first low_second) same e in
+        let p = and_true (eqb low_first low_second) same e in
         let w = of_append (of_widen (walks first)) (of_append (of_edge (walk_first k (omega arith))) (of_reverse (of_widen (walks second)))) in
         let c = rw (← eqb-true low_first low_second p.0) at w in
         record { node = low_first; steps = c.0; walk = c.1; odd = c.2 ∙ closed_odd (odd_side ends k first) (odd_side ends k second) p.1 }

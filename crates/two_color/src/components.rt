@@ -53,6 +53,7 @@ fn root_of(up: &mut [u16], flips: &mut [bool], node: NodeIndex) -> Root
 }
 
 // Takes in an edge with these ends: of two roots the higher is hung under the lower. False where the ends are on the same side of one component.
+#[tactic(auto, using(crate::proofs::ComponentsLaws::join_room, crate::proofs::ComponentsLaws::join_apart))]
 fn join(up: &mut [u16], flips: &mut [bool], first: NodeIndex, second: NodeIndex) -> bool
     requires forest { Forest up.old flips.old }
     requires first_in_bounds { (first.0 < length up.old) × (second.0 < length up.old) }
