@@ -1,6 +1,6 @@
 -- The search for a double edge, node by node: two edges at one node with the same far end. For each node the far ends that
 -- came before are stamped with the node's number and one more, in one list for all nodes.
-use Rattle.std.specs.Prelude.{ℕ, ◌+◌, ◌≤◌, ◌<◌, ◌≡◌, ◌≢◌, List, Bool, true, false, length, get_or}
+use Rattle.std.specs.Prelude.{ℕ, ◌≤◌, ◌<◌, ◌≡◌, ◌≢◌, List, Bool, true, false, length, get_or}
 use Rattle.graph.specs.Edges.{far_end}
 
 -- ---- one node
