@@ -13,9 +13,6 @@ returns-then-out-fan c = search (rules, shifted_short)
 pub loop-i-init : goal.loop-i-init
 loop-i-init c = (omega (arith, c.if-fan-eq0.false), search rules, refl, shifted_start _ c.args.fan.now _ _ (omega (arith, c.if-fan-eq0.false)) c.if-out-fan.false)
 
-pub color_of-requires : goal.color_of-requires
-color_of-requires c = tt
-
 pub loop-i-preserved : goal.loop-i-preserved
 loop-i-preserved c = (search rules, search rules, search rules, search (rules, shifted_next))
 

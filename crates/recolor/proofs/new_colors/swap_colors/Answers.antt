@@ -8,12 +8,6 @@ returns-then-out-edges c = search (rules, exchanged_short)
 pub loop-i-init : goal.loop-i-init
 loop-i-init c = search (rules, exchanged_start)
 
-pub color_of-color-requires : goal.color_of-color-requires
-color_of-color-requires c = tt
-
-pub swapped-requires : goal.swapped-requires
-swapped-requires c = tt
-
 pub loop-i-preserved : goal.loop-i-preserved
 loop-i-preserved c = (search rules, search rules, search (rules, exchanged_next))
 

@@ -6,14 +6,8 @@ use Rattle.recolor.proofs.path.follow.Goals as goal
 pub loop-len-init : goal.loop-len-init
 loop-len-init c = search (rules, follow_start)
 
-pub edge_of_color-requires : goal.edge_of_color-requires
-edge_of_color-requires c = tt
-
 pub returns-in_default : goal.returns-in_default
 returns-in_default c = let all_parts = follow_none _ _ _ _ _ _ _ _ _ _ c.loop-len.invariant.1 (omega (arith, c.loop-len.invariant.0, c.loop-len-test.true)) _ c.edge_of_color.ensures.answer c.in_default.is in record { answer = all_parts.0; out = all_parts.1 }
-
-pub far_end-end-requires : goal.far_end-end-requires
-far_end-end-requires c = tt
 
 pub loop-len-preserved : goal.loop-len-preserved
 loop-len-preserved c = (
