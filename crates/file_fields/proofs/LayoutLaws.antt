@@ -150,9 +150,12 @@ module _ (bytes : List ℕ) (at n m : ℕ) where
         the_byte : p.length ≡ 1 → get_or byte 0 0 ≡ get_or bytes p.start 0
         the_byte k = let z : p.start + 0 ≡ p.start = omega arith in rw (get_or-take p.length (drop p.start bytes) 0 0 (omega arith), get_or-drop p.start bytes 0 0, z)
 
-        pub method_above : p.length ≡ 1 → 3 < get_or bytes p.start 0 → ColorsAnswer L.Malformed
+        above : p.length ≡ 1 → 3 < get_or bytes p.start 0 → is_method (field_there bytes p) ≡ false
         unfolding is_method field_there
-        method_above k h = other_method (and_false (eqb p.tag 4) _ (and_false (eqb (length byte) 1) _ (le-ltb (get_or byte 0 0) 4 (omega (arith, the_byte k)))))
+        above k h = and_false (eqb p.tag 4) _ (and_false (eqb (length byte) 1) _ (le-ltb (get_or byte 0 0) 4 (omega (arith, the_byte k))))
+
+        pub method_above : p.length ≡ 1 → 3 < get_or bytes p.start 0 → ColorsAnswer L.Malformed
+        method_above k h = other_method (above k h)
 
         pub method_more : p.length ≡ 1 → (p.start + 1 ≡ length bytes → ⊥) → ColorsAnswer L.Malformed
         unfolding after_colors
@@ -168,6 +171,11 @@ module _ (bytes : List ℕ) (at n m : ℕ) where
             let is = simp (eq-eqb p.tag 4 t, eq-eqb (length byte) 1 (field_size bytes p (inside p q) ∙ k), lt-ltb (get_or byte 0 0) 4 four) at whole in
             summary_is _ (with_method (get_or byte 0 0) file) (n, m, 15, get_or bytes p.start 0) is
             (ap (λ (u : Summary). (u.0, u.1, u.2 + 8, get_or byte 0 0)) s ∙ ap (λ (u : ℕ). (n, m, 15, u)) x)
+
+-- The same for each file.
+pub byte_above : (bytes : List ℕ) (at : ℕ) (r : FieldAt) → shown_field bytes r ≡ first_field (drop at bytes) → (p : FieldPlace) → r ≡ A.Whole p → FieldInside bytes r
+    → p.length ≡ 1 → 3 < get_or bytes p.start 0 → (file : File) → none ≡ summary_of (bind (fields (drop at bytes)) (after_colors file))
+byte_above bytes at r e p q inside k h file = no_summary _ (wrong_first bytes at r e (after_colors file) p q (λ fs. not_method file (field_there bytes p) fs (above bytes at 0 0 r e p q inside k h)))
 
 -- ---- after the ends
 
@@ -215,6 +223,12 @@ module _ (bytes : List ℕ) (at n m : ℕ) where
             let size : length part ≡ 2 * edge_count file.ends = field_size bytes p (inside p q) ∙ k ∙ ap (λ (x : ℕ). 2 * x) (sym (edges_are file s)) in
             let is = simp (eq-eqb p.tag 3 t, eq-eqb (length part) (2 * edge_count file.ends) size) at next in
             answer (with_colors (numbers part) file) (ap (λ (u : Summary). (u.0, u.1, u.2 + 4, u.3)) s) ∙ ap summary_of (sym is)
+
+-- The same for each file.
+pub other_tag : (bytes : List ℕ) (at : ℕ) (r : FieldAt) → shown_field bytes r ≡ first_field (drop at bytes) → (p : FieldPlace) → r ≡ A.Whole p
+    → (p.tag ≡ 3 → ⊥) → (file : File) → none ≡ summary_of (bind (fields (drop at bytes)) (after_ends file))
+unfolding is_colors field_there
+other_tag bytes at r e p q h file = no_summary _ (wrong_first bytes at r e (after_ends file) p q (λ fs. not_colors file (field_there bytes p) fs (false_and (eqb p.tag 3) _ (ne_eqb p.tag 3 h))))
 
 -- ---- after the node count
 

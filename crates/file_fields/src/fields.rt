@@ -23,6 +23,7 @@ pub enum FieldAt {
 }
 
 // The field whose tag stands at `at`.
+#[tactic(auto, using(crate::proofs::LayoutLaws::header_truncated, crate::proofs::LayoutLaws::field_truncated))]
 pub(crate) fn field_at(bytes: &[u8], at: usize) -> FieldAt
     requires { at ≤ length bytes.now }
     ensures answer { let bytes = bytes.entry.now in shown_field bytes result ≡ first_field (drop at bytes) }

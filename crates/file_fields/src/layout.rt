@@ -22,6 +22,7 @@ fn without_method(nodes: usize, edges: usize, tags: u8) -> FileLayout
 }
 
 // What follows the colours: the end, or the field of the method, then the end.
+#[tactic(auto, using(crate::proofs::LayoutLaws::byte_above))]
 fn after_colors(bytes: &[u8], at: usize, nodes: usize, edges: usize) -> FileLayout
     requires { at ≤ length bytes.now }
     ensures answer { let bytes = bytes.entry.now in
@@ -60,6 +61,7 @@ fn after_colors(bytes: &[u8], at: usize, nodes: usize, edges: usize) -> FileLayo
 }
 
 // What follows the ends: the end, or the field of the colours, and what may follow that.
+#[tactic(auto, using(crate::proofs::LayoutLaws::other_tag))]
 fn after_ends(bytes: &[u8], at: usize, nodes: usize, edges: usize) -> FileLayout
     requires { (at ≤ length bytes.now) × (edges ≤ 4096) }
     ensures answer { let bytes = bytes.entry.now in
@@ -85,6 +87,7 @@ fn after_ends(bytes: &[u8], at: usize, nodes: usize, edges: usize) -> FileLayout
 }
 
 // What follows the node count: the field of the ends, and what may follow that.
+#[tactic(auto, using(crate::proofs::LayoutLaws::ends_tag, crate::proofs::LayoutLaws::ends_length, crate::proofs::LayoutLaws::ends_above))]
 fn after_nodes(bytes: &[u8], at: usize, nodes: usize) -> FileLayout
     requires { at ≤ length bytes.now }
     ensures answer { let bytes = bytes.entry.now in shown_layout result ≡ summary_of (bind (fields (drop at bytes)) (after_nodes nodes)) }
@@ -109,6 +112,7 @@ fn after_nodes(bytes: &[u8], at: usize, nodes: usize) -> FileLayout
 }
 
 // The whole file: the field of the node count comes first.
+#[tactic(auto, using(crate::proofs::LayoutLaws::nodes_tag, crate::proofs::LayoutLaws::nodes_length))]
 pub fn layout_of(bytes: &[u8]) -> FileLayout
     ensures answer { shown_layout result ≡ summary_of (file_of bytes.now) }
 {

@@ -23,14 +23,14 @@ overflow_mul-edges c = let s = c.args in
     omega (arith, edges_most _ s.ends.now s.colors.now (bytes_below _ c.type_inv.bytes) _ c.layout_of.ensures.answer _ c.in-Saved.is)
 
 pub returns-then-ends-edges : goal.returns-then-ends-edges
-returns-then-ends-edges c = let s = c.args in let all_parts = answer_short_ends _ s.ends.now s.colors.now (bytes_below _ c.type_inv.bytes) _ c.layout_of.ensures.answer _ c.in-Saved.is c.if-ends-edges.true in record { report = all_parts.0; ends = all_parts.1.0; colors = all_parts.1.1.0; layout = all_parts.1.1.1 }
+returns-then-ends-edges c = let s = c.args in let all_parts = answer_short_ends _ s.ends.now s.colors.now (bytes_below _ c.type_inv.bytes) _ c.layout_of.ensures.answer _ c.in-Saved.is (omega arith) in record { report = all_parts.0; ends = all_parts.1.0; colors = all_parts.1.1.0; layout = all_parts.1.1.1 }
 
 pub colors_place-place-requires : goal.colors_place-place-requires
 colors_place-place-requires c = let s = c.args in
     edges_most _ s.ends.now s.colors.now (bytes_below _ c.type_inv.bytes) _ c.layout_of.ensures.answer _ c.in-Saved.is
 
 pub returns-then-colors-count : goal.returns-then-colors-count
-returns-then-colors-count c = let s = c.args in let all_parts = answer_short_colors _ s.ends.now s.colors.now (bytes_below _ c.type_inv.bytes) _ c.layout_of.ensures.answer _ c.in-Saved.is _ _ c.colors_place-place.ensures.answer c.if-colors-count.true in record { report = all_parts.0; ends = all_parts.1.0; colors = all_parts.1.1.0; layout = all_parts.1.1.1 }
+returns-then-colors-count c = let s = c.args in let all_parts = answer_short_colors _ s.ends.now s.colors.now (bytes_below _ c.type_inv.bytes) _ c.layout_of.ensures.answer _ c.in-Saved.is _ _ c.colors_place-place.ensures.answer (omega arith) in record { report = all_parts.0; ends = all_parts.1.0; colors = all_parts.1.1.0; layout = all_parts.1.1.1 }
 
 pub slice_bounds-copy_numbers-end : goal.slice_bounds-copy_numbers-end
 slice_bounds-copy_numbers-end c = let s = c.args in
@@ -46,4 +46,4 @@ slice_bounds-copy_numbers-end-in-Saved c = let s = c.args in
 
 pub returns : goal.returns
 returns c = let s = c.args in let all_parts = answer_read _ s.ends.now s.colors.now (bytes_below _ c.type_inv.bytes) _ c.layout_of.ensures.answer _ c.in-Saved.is _ _ c.colors_place-place.ensures.answer
-    c.if-ends-edges.false c.if-colors-count.false _ _ c.copy_numbers.ensures.list c.copy_numbers-in-Saved.ensures.list in record { report = all_parts.0; ends = all_parts.1.0; colors = all_parts.1.1.0; layout = all_parts.1.1.1 }
+    (omega arith) (omega arith) _ _ c.copy_numbers.ensures.list c.copy_numbers-in-Saved.ensures.list in record { report = all_parts.0; ends = all_parts.1.0; colors = all_parts.1.1.0; layout = all_parts.1.1.1 }

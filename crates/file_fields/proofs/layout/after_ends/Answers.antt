@@ -1,6 +1,6 @@
 -- `after_ends` meets its contract: one law for each answer.
 use native.Mathlib.Omega.{arith}
-use Rattle.file_fields.proofs.LayoutLaws.{ends_end, colors_cut, colors_tag, colors_length, colors_read}
+use Rattle.file_fields.proofs.LayoutLaws.{ends_end, colors_cut, colors_length, colors_read}
 use Rattle.file_fields.proofs.layout.after_ends.Goals as goal
 
 pub returns-then-at-bytes : goal.returns-then-at-bytes
@@ -9,17 +9,14 @@ returns-then-at-bytes c = let s = c.args in record { answer = ends_end _ s.at s.
 pub returns-in-Truncated : goal.returns-in-Truncated
 returns-in-Truncated c = let s = c.args in record { answer = colors_cut _ s.at s.nodes s.edges _ c.field_at.ensures.answer c.in-Truncated.is (λ z. omega arith) c.requires.0 }
 
-pub returns-then-field-ne3 : goal.returns-then-field-ne3
-returns-then-field-ne3 c = let s = c.args in record { answer = colors_tag _ s.at s.nodes s.edges _ c.field_at.ensures.answer _ c.in-Whole.is (λ z. omega arith) }
-
-pub returns-then-field-edges : goal.returns-then-field-edges
-returns-then-field-edges c = let s = c.args in record { answer = colors_length _ s.at s.nodes s.edges _ c.field_at.ensures.answer _ c.in-Whole.is c.field_at.ensures.inside (λ z. omega arith) }
-
 pub overflow_add-field : goal.overflow_add-field
 overflow_add-field c = omega (arith, c.field_at.ensures.inside _ c.in-Whole.is)
 
 pub after_colors-requires : goal.after_colors-requires
 after_colors-requires c = c.field_at.ensures.inside _ c.in-Whole.is
 
+pub returns-then-field-edges : goal.returns-then-field-edges
+returns-then-field-edges c = let s = c.args in record { answer = colors_length _ s.at s.nodes s.edges _ c.field_at.ensures.answer _ c.in-Whole.is c.field_at.ensures.inside (λ z. omega arith) }
+
 pub returns : goal.returns
-returns c = let s = c.args in record { answer = colors_read _ s.at s.nodes s.edges _ c.field_at.ensures.answer _ c.in-Whole.is c.field_at.ensures.inside c.if-field-ne3.false c.if-field-edges.false c.after_colors.result c.after_colors.ensures.answer }
+returns c = let s = c.args in record { answer = colors_read _ s.at s.nodes s.edges _ c.field_at.ensures.answer _ c.in-Whole.is c.field_at.ensures.inside (omega arith) (omega arith) c.after_colors.result c.after_colors.ensures.answer }

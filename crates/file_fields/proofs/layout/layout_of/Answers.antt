@@ -1,16 +1,10 @@
 -- `layout_of` meets its contract: one law for each answer.
 use native.Mathlib.Omega.{arith}
-use Rattle.file_fields.proofs.LayoutLaws.{file_cut, nodes_tag, nodes_length, nodes_read}
+use Rattle.file_fields.proofs.LayoutLaws.{file_cut, nodes_read}
 use Rattle.file_fields.proofs.layout.layout_of.Goals as goal
 
 pub returns-in-Truncated : goal.returns-in-Truncated
 returns-in-Truncated c = record { answer = file_cut _ _ c.field_at.ensures.answer c.in-Truncated.is }
-
-pub returns-then-field-ne1 : goal.returns-then-field-ne1
-returns-then-field-ne1 c = record { answer = nodes_tag _ _ c.field_at.ensures.answer _ c.in-Whole.is (λ z. omega arith) }
-
-pub returns-then-field-ne2 : goal.returns-then-field-ne2
-returns-then-field-ne2 c = record { answer = nodes_length _ _ c.field_at.ensures.answer _ c.in-Whole.is c.field_at.ensures.inside (λ z. omega arith) }
 
 pub number_at-nodes-requires : goal.number_at-nodes-requires
 number_at-nodes-requires c = omega (arith, c.field_at.ensures.inside _ c.in-Whole.is)
@@ -22,4 +16,4 @@ pub after_nodes-requires : goal.after_nodes-requires
 after_nodes-requires c = c.field_at.ensures.inside _ c.in-Whole.is
 
 pub returns : goal.returns
-returns c = record { answer = nodes_read _ _ c.field_at.ensures.answer _ c.in-Whole.is c.field_at.ensures.inside c.if-field-ne1.false c.if-field-ne2.false _ c.number_at-nodes.ensures.answer c.after_nodes.result c.after_nodes.ensures.answer }
+returns c = record { answer = nodes_read _ _ c.field_at.ensures.answer _ c.in-Whole.is c.field_at.ensures.inside (omega arith) (omega arith) _ c.number_at-nodes.ensures.answer c.after_nodes.result c.after_nodes.ensures.answer }
