@@ -33,17 +33,20 @@ pairs_even ends m n = paired_even (line_pairs ends m n) (pairs_paired ends m n)
 
 with_member : (k j : ℕ) (js : List ℕ) → Mem j (pairs_with k js) → (j ≡ k) ⊎ Mem j js
 unfolding pairs_with
+with_member k j [] x' = elim x' [ ]
 with_member k j (i ∷ js) (inl p) = inl p
 with_member k j (i ∷ js) (inr (inl p)) = inr (inl p)
 with_member k j (i ∷ js) (inr (inr p)) = elim (with_member k j js p) [ inl q ↦ inl q | inr q ↦ inr (inr q) ]
 
 of_member : (j : ℕ) (ks : List ℕ) → Mem j (pairs_of ks) → Mem j ks
 unfolding pairs_of
+of_member j [] p = elim p [ ]
 of_member j (k ∷ ks) p = elim (mem_append j (pairs_with k ks) (pairs_of ks) p) [ inl q ↦ with_member k j ks q | inr q ↦ inr (of_member j ks q) ]
 
 -- Every number of the line list is an edge below m.
 pairs_inside : (ends : List ℕ) (m n j : ℕ) → Mem j (line_pairs ends m n) → j < m
 unfolding line_pairs
+pairs_inside ends m zero j p = elim p [ ]
 pairs_inside ends m (suc v) j p = elim (mem_append j (line_pairs ends m v) (pairs_of (edges_at ends m v)) p) [
   | inl q ↦ pairs_inside ends m v j q
   | inr q ↦ (edge_at ends m v j (of_member j (edges_at ends m v) q)).0
@@ -190,9 +193,11 @@ reverse_member j [] p = p
 reverse_member j (k ∷ ks) p = elim (mem_append j (reverse ks) (k ∷ []) (rw (reverse-cons k ks) at p)) [
   | inl q ↦ inr (reverse_member j ks q)
   | inr (inl q) ↦ inl q
+  | inr (inr q) ↦ elim q [ ]
 ]
 
 member_reverse : (j : ℕ) (ks : List ℕ) → Mem j ks → Mem j (reverse ks)
+member_reverse j [] x' = elim x' [ ]
 member_reverse j (k ∷ ks) (inl p) = rw (reverse-cons k ks) (mem_append_right j (reverse ks) (k ∷ []) (inl p))
 member_reverse j (k ∷ ks) (inr p) = rw (reverse-cons k ks) (mem_append_left j (reverse ks) (k ∷ []) (member_reverse j ks p))
 
@@ -298,6 +303,7 @@ pub count_at_lem : (ends : List ℕ) (m v j : ℕ) → j < m → At ends j v →
 count_at_lem ends m v j h p = once (edges_at ends m v) (edges_at_nodup ends m v) (at_edge ends m v j h p)
   where
     once : (ks : List ℕ) → Nodup ks → Mem j ks → count j ks ≡ 1
+    once [] u q = elim q [ ]
     once (k ∷ ks) u q = elim (dec_eq j k) [
       | inl e ↦ rw (← e) (count_here j ks ∙ ap suc (count_none j ks (λ r. u.0 (rw e at r))))
       | inr n ↦ elim q [

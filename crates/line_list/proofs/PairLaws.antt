@@ -15,8 +15,8 @@ use Rattle.graph.specs.Edges.{edge_count, first_end, second_end, is_loop, far_en
 use Rattle.graph.proofs.EdgeLaws.{far_first, far_second, first_none, second_at_true, second_none}
 use Rattle.line_list.specs.LineList.{pairs_with, pairs_of}
 use Rattle.line_list.specs.LineNeighbors.{before_in, after_in}
+
 -- No name of it is used: the rows are to be checked before the laws, so that a wrong definition is refused for what it gives.
-use Rattle.line_list.specs.Examples
 
 -- ---- the neighbours, two numbers at a time
 
@@ -123,10 +123,12 @@ Paired (x ∷ y ∷ l) = Paired l
 
 pub paired_even : (l : List ℕ) → Paired l → length l ≡ 2 * edge_count l
 paired_even [] p = omega arith
+paired_even (x ∷ []) p = elim p [ ]
 paired_even (x ∷ y ∷ l) p = omega (arith, paired_even l p)
 
 pub paired_append : (l r : List ℕ) → Paired l → Paired r → Paired (l ++ r)
 paired_append [] r p q = q
+paired_append (x ∷ []) r p q = elim p [ ]
 paired_append (x ∷ y ∷ l) r p q = paired_append l r p q
 
 paired_with : (k : ℕ) (js : List ℕ) → Paired (pairs_with k js)
@@ -143,12 +145,14 @@ paired_of (k ∷ ks) = paired_append (pairs_with k ks) (pairs_of ks) (paired_wit
 pub first_append : (k : ℕ) (l r : List ℕ) → Paired l → first_far k (l ++ r) ≡ first_far k r ++ first_far k l
 unfolding first_far
 first_append k [] r p = sym (append-nil (first_far k r))
+first_append k (x ∷ []) r p = elim p [ ]
 first_append k (x ∷ y ∷ l) r p =
     ap (λ (s : List ℕ). s ++ keep (eqb x k) y []) (first_append k l r p) ∙ append_assoc (first_far k r) (first_far k l) (keep (eqb x k) y [])
 
 pub second_append : (k : ℕ) (l r : List ℕ) → Paired l → second_far k (l ++ r) ≡ second_far k r ++ second_far k l
 unfolding second_far
 second_append k [] r p = sym (append-nil (second_far k r))
+second_append k (x ∷ []) r p = elim p [ ]
 second_append k (x ∷ y ∷ l) r p =
     ap (λ (s : List ℕ). s ++ keep (eqb y k && not (eqb x y)) x []) (second_append k l r p)
     ∙ append_assoc (second_far k r) (second_far k l) (keep (eqb y k && not (eqb x y)) x [])
@@ -172,6 +176,7 @@ second_with_none k i (j ∷ js) n = rw (ne_eqb j k (λ e. n (inl (sym e))), seco
 
 second_with : (k i : ℕ) (js : List ℕ) → Nodup js → i ≢ k → Mem k js → second_far k (pairs_with i js) ≡ i ∷ []
 unfolding second_far pairs_with
+second_with k i [] u n p = elim p [ ]
 second_with k i (j ∷ js) u n p = elim (dec_eq j k) [
   | inl e ↦ rw (eq-eqb j k e, ne_eqb i j (λ f. n (f ∙ e)), second_with_none k i js (rw e at u.0))
   | inr d ↦ elim p [
@@ -230,6 +235,7 @@ second_of_none k (j ∷ ks) n =
 -- Those with second end k come from what stands before k.
 pub second_of : (k : ℕ) (ks : List ℕ) → Nodup ks → Mem k ks → second_far k (pairs_of ks) ≡ reverse (before_in k ks)
 unfolding pairs_of
+second_of k [] u p = elim p [ ]
 second_of k (j ∷ ks) u p =
     second_append k (pairs_with j ks) (pairs_of ks) (paired_with j ks) ∙ elim (dec_eq j k) [
       | inl e ↦
@@ -244,6 +250,7 @@ second_of k (j ∷ ks) u p =
 -- ---- what stands before and after a number
 
 pub split_in : (k : ℕ) (ks : List ℕ) → Mem k ks → ks ≡ before_in k ks ++ (k ∷ after_in k ks)
+split_in k [] p = elim p [ ]
 split_in k (j ∷ ks) p = elim (dec_eq j k) [
   | inl e ↦ rw (e, before_here k ks, after_here k ks)
   | inr n ↦ elim p [
