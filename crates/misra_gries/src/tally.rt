@@ -8,7 +8,7 @@ use graph::{Color, EdgeIndex};
 use stored_colors::greatest_stored;
 
 // Edges coloured, and the greatest colour that any edge has; both 0 before the first edge.
-#[derive(Drop)]
+#[derive(Clone, Copy)]
 pub(crate) struct Tally {
     pub edges: usize,
     pub greatest: u16,

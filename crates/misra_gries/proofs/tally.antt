@@ -1,2 +1,0 @@
--- `Passed` has the parameters that the proofs by hand below pass on.
-mod Passed
