@@ -1,5 +1,5 @@
 /*
- * Wulgranite: graph colouring for calendars. The interface of target/staticlib/libcapi.a (`rt staticlib capi`; x86-64 Linux).
+ * Wulgranite: graph colouring for calendars. The interface of crates/capi/out/libcapi.a (`rt lib` in crates/capi; x86-64 Linux).
  * C99 or later, and C++.
  *
  * A graph is a node count n and a list of ends: edge k joins the nodes ends[2k] and ends[2k + 1]; ends_len counts numbers, not edges.

@@ -1,4 +1,4 @@
-//! Finds the static library: in WULGRANITE_LIB_DIR, or where `rt staticlib capi` writes it.
+//! Finds the static library: in WULGRANITE_LIB_DIR, or where `rt lib` in crates/capi writes it.
 
 use std::path::PathBuf;
 
@@ -7,13 +7,13 @@ fn main() {
     let folder = match std::env::var_os("WULGRANITE_LIB_DIR") {
         Some(folder) => PathBuf::from(folder),
         None => PathBuf::from(std::env::var_os("CARGO_MANIFEST_DIR").unwrap())
-            .join("../target/staticlib"),
+            .join("../crates/capi/out"),
     };
     let library = folder.join("libcapi.a");
     println!("cargo:rerun-if-changed={}", library.display());
     if !library.exists() {
         panic!(
-            "{} is missing: run `rt staticlib capi` first, or say in WULGRANITE_LIB_DIR where libcapi.a is",
+            "{} is missing: run `rt lib` in crates/capi first, or say in WULGRANITE_LIB_DIR where libcapi.a is",
             library.display()
         );
     }

@@ -1,8 +1,8 @@
 /*
  * A list of matches gets its days twice, greedily and by Misra and Gries, and the list with fewer of them is printed.
  *
- *     rt staticlib capi
- *     cc -Iinclude examples/c/fewer.c target/staticlib/libcapi.a -o target/fewer
+ *     (cd crates/capi && rt lib) && mkdir -p target
+ *     cc -Iinclude examples/c/fewer.c crates/capi/out/libcapi.a -o target/fewer
  *     target/fewer < examples/six-clubs.file
  */
 #include <stdio.h>

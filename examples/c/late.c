@@ -1,8 +1,8 @@
 /*
  * The last match of a list comes late, when the others have their days: it gets one, and some of the others may get another.
  *
- *     rt staticlib capi
- *     cc -Iinclude examples/c/late.c target/staticlib/libcapi.a -o target/late
+ *     (cd crates/capi && rt lib) && mkdir -p target
+ *     cc -Iinclude examples/c/late.c crates/capi/out/libcapi.a -o target/late
  *     target/late < examples/six-clubs.file
  */
 #include <stdio.h>

@@ -1,8 +1,8 @@
 /*
  * A small league: its matches in, a day for each out. Beside it, a list that is refused, and a list of no matches.
  *
- *     rt staticlib capi
- *     cc -Iinclude examples/c/league.c target/staticlib/libcapi.a -o target/league
+ *     (cd crates/capi && rt lib) && mkdir -p target
+ *     cc -Iinclude examples/c/league.c crates/capi/out/libcapi.a -o target/league
  *     target/league
  */
 #include <stdio.h>

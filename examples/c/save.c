@@ -1,8 +1,8 @@
 /*
  * A list of matches is read from a file, gets its days, and is saved with them. A list that is saved already is read, too.
  *
- *     rt staticlib capi
- *     cc -Iinclude examples/c/save.c target/staticlib/libcapi.a -o target/save
+ *     (cd crates/capi && rt lib) && mkdir -p target
+ *     cc -Iinclude examples/c/save.c crates/capi/out/libcapi.a -o target/save
  *     target/save examples/six-clubs.file target/saved.file
  */
 #include <stdio.h>

@@ -8,7 +8,7 @@ fn main() {
         return;
     }
     let package = PathBuf::from(std::env::var_os("CARGO_MANIFEST_DIR").unwrap());
-    let folder = package.join("../../target/staticlib");
+    let folder = package.join("../../crates/capi/out");
     let library = folder.join("libcapi.a");
     // Without this a library that was built anew would not be linked anew.
     println!("cargo:rerun-if-changed={}", library.display());
