@@ -1,6 +1,6 @@
 -- Laws of Saturation: the port's run is legal, and what holds of its colours.
 use Prim.Native.Nat.{ℕ, zero, suc, ◌≤◌, ◌<◌}
-use mathlib.Core.Bool.{true, not, true≢false}
+use mathlib.Core.Bool.{Bool, true, not, cond, true≢false}
 use mathlib.Core.List.{List, [], ◌∷◌}
 use mathlib.Core.Logic.{◌⊎◌, inl, inr, ◌≢◌}
 use mathlib.Core.Path.{◌≡◌, refl, sym, ap, subst, ◌∙◌}
@@ -19,8 +19,6 @@ use Rattle.greedy.specs.Turn.{uncolored, color_item}
 use Rattle.greedy.proofs.TurnLaws.{uncolored_member, member_uncolored, uncolored_few, uncolored_less, Partial, partial_presets, partial_turn, partial_greedy, turn_color, turn_here, turn_other, turn_size, color_item_lem}
 use Rattle.greedy.specs.Greedy.{Neighborhood, Greedy}
 use Rattle.greedy.specs.Saturation.{saturation, uncolored_neighbors, greater, greatest, saturation_from, order_from, saturation_colors, none_greater, legal_turn, legal_run}
--- No name of it is used: the rows are to be checked before the laws, so that a wrong definition is refused for what it gives.
-use Rattle.greedy.specs.Examples
 
 module _ (nb : ℕ → List ℕ) where
   module _ (colors : List ℕ) where
@@ -56,8 +54,11 @@ module _ (nb : ℕ → List ℕ) where
     unfolding greatest
     greatest_member v [] = inl refl
     greatest_member v (u ∷ us) = by-test (greater nb colors u v)
-        (λ t. rw (t, greatest) (inr (greatest_member u us)))
-        (λ t. rw (t, greatest) (elim (greatest_member v us) [ inl p ↦ inl p | inr p ↦ inr (inr p) ]))
+        (λ t. let e : greatest nb colors v (u ∷ us) ≡ greatest nb colors u us = ap (λ (b : Bool). greatest nb colors (cond b u v) us) t in
+        subst (λ (x : ℕ). Mem x (v ∷ u ∷ us)) (sym e) (inr (greatest_member u us)))
+        (λ t. let e : greatest nb colors v (u ∷ us) ≡ greatest nb colors v us = ap (λ (b : Bool). greatest nb colors (cond b u v) us) t in
+        let within : Mem (greatest nb colors v us) (v ∷ u ∷ us) = elim (greatest_member v us) [ inl p ↦ inl p | inr p ↦ inr (inr p) ] in
+        subst (λ (x : ℕ). Mem x (v ∷ u ∷ us)) (sym e) within)
 
     -- and none of the list is greater than it; nor is what is not greater than where the search began.
     greatest_above : (v : ℕ) (us : List ℕ) (x : ℕ) → (Greater x v → ⊥) → Greater x (greatest nb colors v us) → ⊥
@@ -70,6 +71,7 @@ module _ (nb : ℕ → List ℕ) where
     pub greatest_greatest : (v : ℕ) (us : List ℕ) (x : ℕ) → Mem x (v ∷ us) → Greater x (greatest nb colors v us) → ⊥
     unfolding greatest
     greatest_greatest v us x (inl e) g = greatest_above v us x (λ h. greater_self v (rw e at h)) g
+    greatest_greatest v [] x (inr x8) g = elim x8 [ ]
     greatest_greatest v (u ∷ us) x (inr (inl e)) g = by-test (greater nb colors u v)
         (λ t. greatest_above u us x (λ h. greater_self u (rw e at h)) (rw (t, greatest) at g))
         (λ t. greatest_above v us x (λ h. true≢false (sym (true_greater u v (rw e at h)) ∙ t)) (rw (t, greatest) at g))

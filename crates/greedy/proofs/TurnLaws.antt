@@ -42,6 +42,7 @@ last_colored colors n d = by-test (is_colored colors n) (λ t. rw t) (λ t. absu
 -- They are the items below n that have none,
 pub uncolored_member : (colors : List ℕ) (n v : ℕ) → Mem v (uncolored colors n) → (v < n) × (color_of colors v ≡ no_color)
 unfolding uncolored
+uncolored_member colors zero v p = elim p [ ]
 uncolored_member colors (suc n) v p = elim (mem_append v (uncolored colors n) (keep (not (is_colored colors n)) n []) p) [
   | inl q ↦ let r = uncolored_member colors n v q in (omega (arith, r.0), r.1)
   | inr q ↦ by-test (is_colored colors n)
@@ -264,6 +265,7 @@ sharing_neighbor n ends passed j k v h g d p q = rw (edge_neighbors_lem n ends p
 
 other_member : (v w : ℕ) (ws : List ℕ) → Mem w ws → w ≢ v → Mem w (others v ws)
 unfolding others
+other_member v w [] x'' d = elim x'' [ ]
 other_member v w (x ∷ ws) (inl e) d = rw (ne_eqb x v (λ z. d (rw e z))) (inl e)
 other_member v w (x ∷ ws) (inr p) d = by-test (eqb x v) (λ t. rw t (other_member v w ws p d)) (λ t. rw t (inr (other_member v w ws p d)))
 

@@ -16,6 +16,7 @@ pub enum ColoringStrategy {
 }
 
 // The checks, given how many items, presets and colours there are.
+#[tactic(auto, using(crate::proofs::CallLaws::presets_refused))]
 fn check_items(n: usize, ends: &[u16], items: usize, presets: usize, colors: usize) -> Checked
     ensures report { report_of_checked result ≡ check_items n ends.now items presets colors }
 {
