@@ -13,7 +13,6 @@ use Rattle.lists.proofs.Tests.{by-test}
 use Rattle.matchday_text.specs.Text.{digits, decimal, followed, space, line_feed, line, edge_line, edge_lines, days_word, days_text, refused_word, refused_text}
 use Rattle.lists.specs.Parts.{copied_over, overwrite}
 use Rattle.lists.proofs.PartsLaws.{overwrite_append, overwrite_front}
-use Rattle.graph.specs.Report.{number}
 use Rattle.graph.specs.Edges.{edge_count, first_end, second_end}
 use Rattle.graph.specs.Colored.{color_of}
 use Rattle.matchday_text.specs.Put.{Put, Room}
@@ -30,7 +29,7 @@ places_enough (suc f) (suc g) x h k =
     (λ t. let b = ltb-true 9 x t in rw (t, digits) (ap (λ (l : List ℕ). l ++ ((48 + x % 10) ∷ [])) (places_enough f g (x / 10) (omega arith) (omega arith))))
     (λ t. rw (t, digits))
 
-decimal_digit : (x : ℕ) → x < 10 → decimal x ≡ (48 + x) ∷ []
+pub decimal_digit : (x : ℕ) → x < 10 → decimal x ≡ (48 + x) ∷ []
 unfolding decimal digits
 decimal_digit x h = rw (le-ltb 9 x (let b : x ≤ 9 = omega arith in b), digits)
 

@@ -29,6 +29,7 @@ pub(crate) fn put_bytes(text: &mut [u8], at: usize, bytes: &[u8]) -> usize
 }
 
 // The digits of a tenth of the number, then its last digit.
+#[tactic(auto, using(crate::proofs::PutLaws::decimal_digit))]
 fn put_decimal(text: &mut [u8], at: usize, x: usize) -> usize
     requires { Room at (decimal x) }
     ensures put { Put text.old at (decimal x) text.new result }
