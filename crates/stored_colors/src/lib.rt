@@ -42,6 +42,7 @@ pub fn max_degree(n: u16, starts: &[u16], entries: &[u16]) -> usize
 }
 
 // Whether the colour is not above the limit, and no edge has it at either end of this one.
+#[tactic(auto, using(crate::proofs::StoredLaws::above_limit, crate::proofs::StoredLaws::taken_at_first, crate::proofs::StoredLaws::by_second))]
 fn may_take(ends: &[u16], table: &[u16], edge: EdgeIndex, color: Color, limit: usize) -> bool
     ensures answer { result ≡ may_take ends.now table.now edge.0 color.0 limit }
 {
