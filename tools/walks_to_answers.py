@@ -222,6 +222,7 @@ def split_pair(text):
             out.append(t[start:i])
             start = i + 1
     out.append(t[start:-1])
+    out = [p for p in out if p.strip()]
     return [p.strip() for p in out] if len(out) > 1 else None
 
 

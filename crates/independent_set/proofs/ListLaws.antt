@@ -60,7 +60,7 @@ module _ (v : ℕ) (l : List ℕ) (u : Nodup l) (m : Mem v l) where
   out_other j h d = get_or-take (length l - 1) (set l (place_of v l) last) j 0 h ∙ get_or-set_other l (place_of v l) j last 0 d
 
   -- Where what is left stood: another place than v's.
-  came_from : (j : ℕ) → j < length l - 1 → (i : ℕ) × (i < length l) × (i ≢ place_of v l) × (get_or (take_out v l) j 0 ≡ get_or l i 0) × (i ≡ j) ⊎ ((i ≡ length l - 1) × (j ≡ place_of v l))
+  came_from : (j : ℕ) → j < length l - 1 → (i : ℕ) × (i < length l) × (i ≢ place_of v l) × (get_or (take_out v l) j 0 ≡ get_or l i 0) × ((i ≡ j) ⊎ ((i ≡ length l - 1) × (j ≡ place_of v l)))
   came_from j h = elim (dec_eq j (place_of v l)) [
     | inl e ↦ (length l - 1, omega arith, λ q. omega arith, ap (λ (i : ℕ). get_or (take_out v l) i 0) e ∙ out_hole (omega arith), inr (refl, e))
     | inr d ↦ (j, omega arith, d, out_other j h d, inl refl)

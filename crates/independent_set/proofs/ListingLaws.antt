@@ -54,6 +54,7 @@ place_item n listed place len items l j h = subst (λ (x : ℕ). Mem x items) (i
 -- The definition's place of a member.
 pub place_found : (v : ℕ) (xs : List ℕ) → Mem v xs → (place_of v xs < length xs) × (get_or xs (place_of v xs) 0 ≡ v)
 unfolding place_of
+place_found v [] p = elim p [ ]
 place_found v (x ∷ xs) p = by-test (eqb v x)
     (λ t. simp t (omega arith, sym (eqb-true v x t)))
     (λ t. let r = place_found v xs (elim p [ inl q ↦ absurd (eqb-false v x t q) | inr q ↦ q ]) in simp t (omega (arith, r.0), r.1))

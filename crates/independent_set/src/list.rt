@@ -9,7 +9,7 @@ ghost use Rattle.independent_set.specs.Listing.{Listing, ListsHeld, lists_at};
 use graph::{Color, NodeIndex};
 
 // How many items are listed, and how many are put off to the next round.
-#[derive(Drop)]
+#[derive(Clone, Copy)]
 pub struct Counts {
     pub listed: usize,
     pub next: usize,
