@@ -20,15 +20,6 @@ loop-k-preserved c = let i = c.loop-k.invariant in
       running_next _ _ _ _ _ _ _ _ _ i.0 _ _ _ _ c.loop-k-test.true done.ensures.tallied _ i.4,
     )
 
-pub shape_of-work : goal.shape_of-work
-shape_of-work c = c.loop-k.invariant.1
-
-pub shape_of-table : goal.shape_of-table
-shape_of-table c = c.loop-k.invariant.2
-
-pub shape_of-marks : goal.shape_of-marks
-shape_of-marks c = c.loop-k.invariant.3
-
 pub returns : goal.returns
 returns c = let i = c.loop-k.invariant in
     let e : c.loop-k.k ≡ edge_count c.args.ends.now = omega (arith, i.0.bound, c.loop-k-test.false) in record { running = rw e at i.0; held = running_end _ _ _ _ _ _ _ _ _ i.0 _ i.4 c.loop-k-test.false }

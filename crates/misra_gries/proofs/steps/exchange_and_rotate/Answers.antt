@@ -1,5 +1,4 @@
 -- `exchange_and_rotate` meets its contract: c and d as the table has them, the path exchanged, the fan rotated up to w.
-use mathlib.Core.Path.{◌∙◌}
 use native.Mathlib.Omega.{arith}
 use Rattle.misra_gries.proofs.StepLaws.{turn_fan, turn_exchanging, turn_count, turn_rotating, turned_alone, turned_along}
 use Rattle.misra_gries.proofs.steps.exchange_and_rotate.Goals as goal
@@ -19,20 +18,8 @@ slice_bounds-rotate_fan-end c = turn_count _ _ _ _ _ _ _ _ c.requires _ _ _ c.fa
 pub rotate_fan-requires : goal.rotate_fan-requires
 rotate_fan-requires c = turn_rotating _ _ _ _ _ _ _ _ c.requires _ _ _ c.far_end-end.ensures.answer c.smallest_free-c.ensures.answer c.smallest_free-d.ensures.answer _ _ _ c.exchange_path-len.ensures.exchanged _ c.places_to-count.ensures.answer
 
-pub shape_of-work-then-len-eq0 : goal.shape_of-work-then-len-eq0
-shape_of-work-then-len-eq0 c = c.rotate_fan.auto.work ∙ c.exchange_path-len.auto.work
-
-pub shape_of-table-then-len-eq0 : goal.shape_of-table-then-len-eq0
-shape_of-table-then-len-eq0 c = c.rotate_fan.auto.table ∙ c.exchange_path-len.auto.table
-
 pub returns-then-len-eq0 : goal.returns-then-len-eq0
 returns-then-len-eq0 c = record { turned = turned_alone _ _ _ _ _ _ _ _ c.requires _ _ _ c.far_end-end.ensures.answer c.smallest_free-c.ensures.answer c.smallest_free-d.ensures.answer _ _ _ c.exchange_path-len.ensures.exchanged _ c.places_to-count.ensures.answer _ _ c.rotate_fan.ensures.rotated c.if-len-eq0.true }
-
-pub shape_of-work-else-len-eq0 : goal.shape_of-work-else-len-eq0
-shape_of-work-else-len-eq0 c = c.rotate_fan.auto.work ∙ c.exchange_path-len.auto.work
-
-pub shape_of-table-else-len-eq0 : goal.shape_of-table-else-len-eq0
-shape_of-table-else-len-eq0 c = c.rotate_fan.auto.table ∙ c.exchange_path-len.auto.table
 
 pub returns-else-len-eq0 : goal.returns-else-len-eq0
 returns-else-len-eq0 c = record { turned = turned_along _ _ _ _ _ _ _ _ c.requires _ _ _ c.far_end-end.ensures.answer c.smallest_free-c.ensures.answer c.smallest_free-d.ensures.answer _ _ _ c.exchange_path-len.ensures.exchanged _ c.places_to-count.ensures.answer _ _ c.rotate_fan.ensures.rotated c.if-len-eq0.false }

@@ -16,9 +16,6 @@ slice_bounds-edges-end-2 c = (path_followed _ _ _ _ _ _ (replicate 512 0) _ _ c.
 pub slice_bounds-swap_colors-end : goal.slice_bounds-swap_colors-end
 slice_bounds-swap_colors-end c = (path_followed _ _ _ _ _ _ (replicate 512 0) _ _ c.requires.nodes refl c.follow-len.auto.out (path_written _ _ _ _ _ _ _ _ _ (c.follow-len.ensures.answer, c.follow-len.ensures.out))).filled
 
-pub slice_bounds-swap_colors-end-2 : goal.slice_bounds-swap_colors-end-2
-slice_bounds-swap_colors-end-2 c = refl
-
 pub slice_bounds-edges-end-3 : goal.slice_bounds-edges-end-3
 slice_bounds-edges-end-3 c = (path_followed _ _ _ _ _ _ (replicate 512 0) _ _ c.requires.nodes refl c.follow-len.auto.out (path_written _ _ _ _ _ _ _ _ _ (c.follow-len.ensures.answer, c.follow-len.ensures.out))).inside
 
@@ -30,12 +27,6 @@ slice_bounds-colors-end c = omega (arith, c.swap_colors.auto.out, (path_followed
 
 pub slice_bounds-repaint-end-2 : goal.slice_bounds-repaint-end-2
 slice_bounds-repaint-end-2 c = sym (length-take-le _ _ (omega (arith, c.swap_colors.auto.out, (path_followed _ _ _ _ _ _ (replicate 512 0) _ _ c.requires.nodes refl c.follow-len.auto.out (path_written _ _ _ _ _ _ _ _ _ (c.follow-len.ensures.answer, c.follow-len.ensures.out))).short)))
-
-pub shape_of-work : goal.shape_of-work
-shape_of-work c = c.repaint.auto.work
-
-pub shape_of-table : goal.shape_of-table
-shape_of-table c = c.repaint.auto.table
 
 pub returns : goal.returns
 returns c = let f = (path_followed _ _ _ _ _ _ (replicate 512 0) _ _ c.requires.nodes refl c.follow-len.auto.out (path_written _ _ _ _ _ _ _ _ _ (c.follow-len.ensures.answer, c.follow-len.ensures.out))) in record { exchanged = path_exchanged _ _ _ _ _ _ _ c.requires _ (replicate 512 0) _ _ _ _ f.path f.filled f.short c.swap_colors.ensures.out c.repaint.ensures.state }

@@ -1,5 +1,5 @@
 -- `exchange_few` meets its contract: the path that ends in the short array is the whole path.
-use mathlib.Core.Path.{refl, sym}
+use mathlib.Core.Path.{sym}
 use native.Mathlib.Omega.{arith}
 use lib.ListN.{replicate}
 use lib.Seq.{length-take-le}
@@ -7,59 +7,23 @@ use Rattle.recolor.proofs.TablePathLaws.{path_written}
 use Rattle.misra_gries.proofs.StepLaws.{path_few, path_exchanged}
 use Rattle.misra_gries.proofs.steps.exchange_few.Goals as goal
 
-pub exchange_edges-requires : goal.exchange_edges-requires
-exchange_edges-requires c = c.requires
-
-pub shape_of-work-then-n-lt32 : goal.shape_of-work-then-n-lt32
-shape_of-work-then-n-lt32 c = c.exchange_edges.auto.work
-
-pub shape_of-table-then-n-lt32 : goal.shape_of-table-then-n-lt32
-shape_of-table-then-n-lt32 c = c.exchange_edges.auto.table
-
-pub returns-then-n-lt32 : goal.returns-then-n-lt32
-returns-then-n-lt32 c = record { exchanged = c.exchange_edges.ensures.exchanged }
-
-pub slice_bounds-follow-end : goal.slice_bounds-follow-end
-slice_bounds-follow-end c = refl
-
-pub exchange_edges-requires-then-len-eq32 : goal.exchange_edges-requires-then-len-eq32
-exchange_edges-requires-then-len-eq32 c = c.requires
-
-pub shape_of-work-then-len-eq32 : goal.shape_of-work-then-len-eq32
-shape_of-work-then-len-eq32 c = c.exchange_edges-then-len-eq32.auto.work
-
-pub shape_of-table-then-len-eq32 : goal.shape_of-table-then-len-eq32
-shape_of-table-then-len-eq32 c = c.exchange_edges-then-len-eq32.auto.table
-
-pub returns-then-len-eq32 : goal.returns-then-len-eq32
-returns-then-len-eq32 c = record { exchanged = c.exchange_edges-then-len-eq32.ensures.exchanged }
-
 pub slice_bounds-edges-end : goal.slice_bounds-edges-end
-slice_bounds-edges-end c = (path_few _ _ _ _ _ _ 32 _ _ c.if-n-lt32.false c.if-len-eq32.false c.follow-len.auto.out (path_written _ _ _ _ _ _ _ _ _ (c.follow-len.ensures.answer, c.follow-len.ensures.out))).inside
+slice_bounds-edges-end c = (path_few _ _ _ _ _ _ 32 _ c.follow-len.result c.if-n-lt32.false (λ z. omega arith) c.follow-len.auto.out (path_written _ _ _ _ _ _ _ _ _ (c.follow-len.ensures.answer, c.follow-len.ensures.out))).inside
 
 pub slice_bounds-swap_colors-end : goal.slice_bounds-swap_colors-end
-slice_bounds-swap_colors-end c = (path_few _ _ _ _ _ _ 32 _ _ c.if-n-lt32.false c.if-len-eq32.false c.follow-len.auto.out (path_written _ _ _ _ _ _ _ _ _ (c.follow-len.ensures.answer, c.follow-len.ensures.out))).filled
-
-pub slice_bounds-swap_colors-end-2 : goal.slice_bounds-swap_colors-end-2
-slice_bounds-swap_colors-end-2 c = refl
+slice_bounds-swap_colors-end c = (path_few _ _ _ _ _ _ 32 _ c.follow-len.result c.if-n-lt32.false (λ z. omega arith) c.follow-len.auto.out (path_written _ _ _ _ _ _ _ _ _ (c.follow-len.ensures.answer, c.follow-len.ensures.out))).filled
 
 pub slice_bounds-edges-end-2 : goal.slice_bounds-edges-end-2
-slice_bounds-edges-end-2 c = (path_few _ _ _ _ _ _ 32 _ _ c.if-n-lt32.false c.if-len-eq32.false c.follow-len.auto.out (path_written _ _ _ _ _ _ _ _ _ (c.follow-len.ensures.answer, c.follow-len.ensures.out))).inside
+slice_bounds-edges-end-2 c = (path_few _ _ _ _ _ _ 32 _ c.follow-len.result c.if-n-lt32.false (λ z. omega arith) c.follow-len.auto.out (path_written _ _ _ _ _ _ _ _ _ (c.follow-len.ensures.answer, c.follow-len.ensures.out))).inside
 
 pub slice_bounds-repaint-end : goal.slice_bounds-repaint-end
-slice_bounds-repaint-end c = (path_few _ _ _ _ _ _ 32 _ _ c.if-n-lt32.false c.if-len-eq32.false c.follow-len.auto.out (path_written _ _ _ _ _ _ _ _ _ (c.follow-len.ensures.answer, c.follow-len.ensures.out))).filled
+slice_bounds-repaint-end c = (path_few _ _ _ _ _ _ 32 _ c.follow-len.result c.if-n-lt32.false (λ z. omega arith) c.follow-len.auto.out (path_written _ _ _ _ _ _ _ _ _ (c.follow-len.ensures.answer, c.follow-len.ensures.out))).filled
 
 pub slice_bounds-colors-end : goal.slice_bounds-colors-end
-slice_bounds-colors-end c = omega (arith, c.swap_colors.auto.out, (path_few _ _ _ _ _ _ 32 _ _ c.if-n-lt32.false c.if-len-eq32.false c.follow-len.auto.out (path_written _ _ _ _ _ _ _ _ _ (c.follow-len.ensures.answer, c.follow-len.ensures.out))).short)
+slice_bounds-colors-end c = omega (arith, c.swap_colors.auto.out, (path_few _ _ _ _ _ _ 32 _ c.follow-len.result c.if-n-lt32.false (λ z. omega arith) c.follow-len.auto.out (path_written _ _ _ _ _ _ _ _ _ (c.follow-len.ensures.answer, c.follow-len.ensures.out))).short)
 
 pub slice_bounds-repaint-end-2 : goal.slice_bounds-repaint-end-2
-slice_bounds-repaint-end-2 c = sym (length-take-le _ _ (omega (arith, c.swap_colors.auto.out, (path_few _ _ _ _ _ _ 32 _ _ c.if-n-lt32.false c.if-len-eq32.false c.follow-len.auto.out (path_written _ _ _ _ _ _ _ _ _ (c.follow-len.ensures.answer, c.follow-len.ensures.out))).short)))
-
-pub shape_of-work : goal.shape_of-work
-shape_of-work c = c.repaint.auto.work
-
-pub shape_of-table : goal.shape_of-table
-shape_of-table c = c.repaint.auto.table
+slice_bounds-repaint-end-2 c = sym (length-take-le _ _ (omega (arith, c.swap_colors.auto.out, (path_few _ _ _ _ _ _ 32 _ c.follow-len.result c.if-n-lt32.false (λ z. omega arith) c.follow-len.auto.out (path_written _ _ _ _ _ _ _ _ _ (c.follow-len.ensures.answer, c.follow-len.ensures.out))).short)))
 
 pub returns : goal.returns
-returns c = let f = (path_few _ _ _ _ _ _ 32 _ _ c.if-n-lt32.false c.if-len-eq32.false c.follow-len.auto.out (path_written _ _ _ _ _ _ _ _ _ (c.follow-len.ensures.answer, c.follow-len.ensures.out))) in record { exchanged = path_exchanged _ _ _ _ _ _ _ c.requires _ (replicate 32 0) _ _ _ _ f.path f.filled f.short c.swap_colors.ensures.out c.repaint.ensures.state }
+returns c = let f = (path_few _ _ _ _ _ _ 32 _ c.follow-len.result c.if-n-lt32.false (λ z. omega arith) c.follow-len.auto.out (path_written _ _ _ _ _ _ _ _ _ (c.follow-len.ensures.answer, c.follow-len.ensures.out))) in record { exchanged = path_exchanged _ _ _ _ _ _ _ c.requires _ (replicate 32 0) _ _ _ _ f.path f.filled f.short c.swap_colors.ensures.out c.repaint.ensures.state }

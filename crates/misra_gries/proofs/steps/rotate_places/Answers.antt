@@ -5,11 +5,5 @@ use Rattle.misra_gries.proofs.steps.rotate_places.Goals as goal
 pub slice_bounds-repaint-end-2 : goal.slice_bounds-repaint-end-2
 slice_bounds-repaint-end-2 c = rotated_length _ _ _ _ _ _ c.requires _ _ c.shift_colors.ensures.out c.requires.fits
 
-pub shape_of-work : goal.shape_of-work
-shape_of-work c = c.repaint.auto.work
-
-pub shape_of-table : goal.shape_of-table
-shape_of-table c = c.repaint.auto.table
-
 pub returns : goal.returns
 returns c = record { rotated = fan_rotated _ _ _ _ _ _ c.requires _ _ c.shift_colors.ensures.out c.requires.fits _ _ c.repaint.ensures.state }

@@ -1,12 +1,9 @@
 -- `step` meets its contract: the fan grown from the edges at the first end, then turned.
-use mathlib.Core.Path.{refl, sym}
+use mathlib.Core.Path.{sym}
 use lib.Seq.{length-take-le}
 use Rattle.misra_gries.proofs.StepLaws.{fan_ready, step_turning, short_take}
 use native.Mathlib.Omega.{arith}
 use Rattle.misra_gries.proofs.steps.step.Goals as goal
-
-pub slice_bounds-grow-end : goal.slice_bounds-grow-end
-slice_bounds-grow-end c = refl
 
 pub grow-len-requires : goal.grow-len-requires
 grow-len-requires c = record { fan_ready = fan_ready _ _ _ _ _ _ _ _ c.requires _ c.end_at-node.ensures.answer _ c.edges_at-near.ensures.contents; in_bounds = omega arith }
@@ -19,15 +16,6 @@ slice_bounds-exchange_and_rotate-end c = sym (length-take-le _ _ (omega (arith, 
 
 pub exchange_and_rotate-requires : goal.exchange_and_rotate-requires
 exchange_and_rotate-requires c = step_turning _ _ _ _ _ _ _ _ c.requires _ c.end_at-node.ensures.answer _ _ c.end_at-far.ensures.answer c.grow-len.ensures.out (short_take _ _ _ c.grow-len.ensures.bound)
-
-pub shape_of-work : goal.shape_of-work
-shape_of-work c = c.exchange_and_rotate.auto.work
-
-pub shape_of-table : goal.shape_of-table
-shape_of-table c = c.exchange_and_rotate.auto.table
-
-pub shape_of-marks : goal.shape_of-marks
-shape_of-marks c = c.grow-len.auto.marks
 
 pub returns : goal.returns
 returns c = let grown = c.grow-len in
