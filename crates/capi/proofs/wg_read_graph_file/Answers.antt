@@ -1,0 +1,7 @@
+-- `wg_read_graph_file` meets its contract: the report of `read_graph_file` is the one answered.
+use borrow.Author.Rules.{rules}
+use Rattle.c_answer.proofs.AnswerLaws.{answered_by, both}
+use Rattle.capi.proofs.wg_read_graph_file.Goals as goal
+
+pub returns : goal.returns
+returns c = search (rules, answered_by, both)
