@@ -181,6 +181,7 @@ unfolding degree
 own_at ends v a h p = member_length v (edges_at ends (edge_count ends) a) (at_edge ends (edge_count ends) a v h p)
   where
     member_length : (k : ℕ) (ks : List ℕ) → Mem k ks → 1 ≤ length ks
+    member_length k mathlib.Core.List.[] q = elim q [ ]
     member_length k (j ∷ ks) q = omega arith
 
 module _ (n : ℕ) (ends starts entries : List ℕ) (items : ℕ) where

@@ -14,7 +14,7 @@ use line_graph::{edge_of_node, node_of_edge};
 use smallest_color::{smallest_color, smallest_edge_color};
 
 // Which items are coloured.
-#[derive(Drop)]
+#[derive(Clone, Copy)]
 pub enum Kind {
     Nodes,
     Edges,
