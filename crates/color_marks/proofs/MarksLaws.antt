@@ -59,6 +59,7 @@ module _ (f : ℕ → ℕ) where
 
   pub stored_here : (us marks : List ℕ) (u : ℕ) → Mem u us → u < length marks → get_or (stored f us marks) u 0 ≡ f u
   unfolding stored
+  stored_here [] marks u p h = elim p [ ]
   stored_here (x ∷ us) marks u p h = elim (dec_mem u us) [
     | inl q ↦ stored_here us (set marks x (f x)) u q (omega (arith, length-set marks x (f x)))
     | inr n ↦ elim p [
@@ -105,6 +106,7 @@ module _ (kind : Kind) (ends colors : List ℕ) (c w : ℕ) where
 
   pub item_stands : (ks : List ℕ) (k : ℕ) → Mem k ks → across_of kind ends k w < length colors → color_of colors (across_of kind ends k w) ≡ c → stands_at kind ends colors c w ks ≡ true
   unfolding stands_at has_color
+  item_stands [] k x3 h e = elim x3 [ ]
   item_stands (j ∷ ks) k (inl p) h e =
       let v = across_of kind ends k w in
       rw (← p, lt-ltb v (length colors) h, eq-eqb (get_or colors v 0) c (color_read colors v 0 h ∙ e))
