@@ -29,6 +29,7 @@ use Rattle.color_marks.specs.Marks.{stored, around, stands, mark_of, used_marks}
 
 pub mem_count : (k : ℕ) (xs : List ℕ) → Mem k xs → 0 < count k xs
 unfolding count
+mem_count k [] x' = elim x' [ ]
 mem_count k (x ∷ xs) (inl p) = simp (eq-eqb k x p) (omega arith)
 mem_count k (x ∷ xs) (inr p) = omega (arith, mem_count k xs p)
 

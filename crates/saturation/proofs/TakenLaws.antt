@@ -38,6 +38,7 @@ waiting_among nb colors v = refl
 -- Where none of these items is without a colour, each has one.
 uncolored_none : (colors us : List ℕ) → uncolored_among colors us ≡ 0 → (u : ℕ) → Mem u us → color_of colors u ≡ no_color → ⊥
 unfolding uncolored_among
+uncolored_none colors [] z u x3 e = elim x3 [ ]
 uncolored_none colors (x ∷ us) z u (inl p) e = let w = rw (uncolored_false colors x (ap (color_of colors) (sym p) ∙ e)) at z in omega arith
 uncolored_none colors (x ∷ us) z u (inr p) e = by-test (is_colored colors x)
     (λ t. uncolored_none colors us (rw t at z) u p e)
