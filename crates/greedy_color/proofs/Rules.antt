@@ -110,6 +110,20 @@ pub by_strategy : (strategy known : ColoringStrategy) → strategy ≡ known →
     → (r ≡ (greedy_nodes (rule_of strategy) n ends presets lent).report) × ((colors ≡ (greedy_nodes (rule_of strategy) n ends presets lent).colors) × ((Passed n ends → length presets ≡ n → length lent ≡ n → Accepted r) × (PrecoloringKept n presets r colors × ProperNodeColoring n ends presets r colors)))
 by_strategy strategy known e greedy n ends presets lent r colors a b = rw e (with_presets (rule_of known) greedy n ends presets lent r colors a b)
 
+-- The same, by the names of the call's clauses.
+pub clauses_by_strategy : (strategy known : ColoringStrategy) → strategy ≡ known → GreedyRule (rule_of known) → (n : ℕ) (ends presets lent : List ℕ) (r : Report ℕ) (found : List ℕ)
+    → r ≡ (greedy_nodes (rule_of known) n ends presets lent).report → found ≡ (greedy_nodes (rule_of known) n ends presets lent).colors
+    → record {
+      report : r ≡ (greedy_nodes (rule_of strategy) n ends presets lent).report;
+      colors : found ≡ (greedy_nodes (rule_of strategy) n ends presets lent).colors;
+      accepts : Passed n ends → length presets ≡ n → length lent ≡ n → Accepted r;
+      precoloring : PrecoloringKept n presets r found;
+      proper : ProperNodeColoring n ends presets r found;
+    }
+clauses_by_strategy strategy known e greedy n ends presets lent r found a b =
+    let p = by_strategy strategy known e greedy n ends presets lent r found a b in
+    record { report = p.0; colors = p.1.0; accepts = p.1.1.0; precoloring = p.1.1.1.0; proper = p.1.1.1.1 }
+
 pub edges_by_strategy : (strategy known : ColoringStrategy) → strategy ≡ known → GreedyRule (rule_of known) → (n : ℕ) (ends presets lent : List ℕ) (r : Report ℕ) (colors : List ℕ)
     → r ≡ (greedy_edges (rule_of known) n ends presets lent).report → colors ≡ (greedy_edges (rule_of known) n ends presets lent).colors
     → (r ≡ (greedy_edges (rule_of strategy) n ends presets lent).report) × ((colors ≡ (greedy_edges (rule_of strategy) n ends presets lent).colors) × ((Passed n ends → length presets ≡ edge_count ends → length lent ≡ edge_count ends → Accepted r) × (PrecoloringKept (edge_count ends) presets r colors × ProperEdgeColoring ends presets r colors)))
