@@ -1,0 +1,6 @@
+-- `no_preset_node_moved_by_degree` meets its contract: by the holiday lookup's clause.
+use Rattle.callers.proofs.RelianceLaws.{no_preset_moved}
+use Rattle.callers.proofs.holiday_lookup.no_preset_node_moved_by_degree.Goals as goal
+
+pub returns : goal.returns
+returns c = record { report = c.greedy_node_color_with_preset_colors.ensures.report; colors = c.greedy_node_color_with_preset_colors.ensures.colors; relied = no_preset_moved _ _ _ _ _ _ _ c.greedy_node_color_with_preset_colors.ensures.accepts c.greedy_node_color_with_preset_colors.ensures.precoloring }
