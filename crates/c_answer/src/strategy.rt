@@ -7,7 +7,7 @@ use graph::Checked;
 use greedy::ColoringStrategy;
 
 // What a number names.
-#[derive(Drop)]
+#[derive(Clone, Copy)]
 pub enum StrategyNumber {
     Known(ColoringStrategy),
     Unknown,

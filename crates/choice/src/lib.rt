@@ -7,7 +7,7 @@ ghost use Rattle.choice.specs.Choice.{greatest_below, count_with, option_of, cho
 use graph::{Color, Graph, NodeIndex};
 
 // The item whose turn it is, or none.
-#[derive(Drop)]
+#[derive(Clone, Copy)]
 pub enum Choice {
     Next(NodeIndex),
     Nothing,

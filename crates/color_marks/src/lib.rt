@@ -12,7 +12,7 @@ use graph::{Color, EdgeIndex, Graph, NodeIndex};
 use items::{Kind, across, first_node, second_node};
 
 // What is noted of a node in a turn.
-#[derive(Drop)]
+#[derive(Clone, Copy)]
 struct Note(pub u8);
 
 impl Note {

@@ -213,7 +213,7 @@ fn second_chosen(first: &[u16], second: &[u16]) -> bool
 }
 
 // A leading part of one of two lists: which of them, and how long it is.
-#[derive(Drop)]
+#[derive(Clone, Copy)]
 pub struct LeadingPart {
     pub second: bool,
     pub length: usize,

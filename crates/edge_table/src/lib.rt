@@ -10,7 +10,7 @@ pub use lookup::{color_of, edge_of_color, is_free, smallest_free};
 
 // The table's sizes: a row for each colour, in it a place for each node, so that the few colours of a sparse graph stand close together.
 // A simple graph of so many nodes has no degree of so many colours, so one is always free.
-#[derive(Drop)]
+#[derive(Clone, Copy)]
 pub struct EdgeTable;
 
 impl EdgeTable {
@@ -22,7 +22,7 @@ impl EdgeTable {
 }
 
 // The edge of a colour at a node.
-#[derive(Drop)]
+#[derive(Clone, Copy)]
 pub enum EdgeOfColor {
     Edge(EdgeIndex),
     Nothing,

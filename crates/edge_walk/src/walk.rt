@@ -7,14 +7,14 @@ use crate::edges_at;
 use graph::{EdgeIndex, NodeIndex};
 
 // The walk over one node's edges: the stretch of the entries that it goes over, and the place reached.
-#[derive(Drop)]
+#[derive(Clone, Copy)]
 pub struct EdgeWalk<'a> {
     pub entries: &'a [u16],
     pub at: usize,
 }
 
 // The edge at a walk's place and the place after it, or the end.
-#[derive(Drop)]
+#[derive(Clone, Copy)]
 pub enum WalkStep {
     Edge(EdgeIndex, usize),
     End,

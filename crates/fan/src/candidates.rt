@@ -7,7 +7,7 @@ use edge_table::{color_of, is_free};
 use graph::{Color, EdgeIndex, NodeIndex};
 
 // The candidate that joins next.
-#[derive(Drop)]
+#[derive(Clone, Copy)]
 pub enum Joining {
     Edge(EdgeIndex),
     Nothing,

@@ -8,7 +8,7 @@ ghost use Rattle.file_fields.specs.declared.fields.FieldAt.TheVariants.{Whole};
 use crate::numbers;
 
 // A field's tag, where its bytes start, and their number.
-#[derive(Drop)]
+#[derive(Clone, Copy)]
 pub struct FieldPlace {
     pub tag: u8,
     pub start: usize,
@@ -16,7 +16,7 @@ pub struct FieldPlace {
 }
 
 // The field at a place, or that the bytes end inside it.
-#[derive(Drop)]
+#[derive(Clone, Copy)]
 pub enum FieldAt {
     Whole(FieldPlace),
     Truncated,

@@ -9,7 +9,7 @@ pub use layout::layout_of;
 pub use numbers::copy_numbers;
 
 // How a saved list was coloured, the byte of tag 4.
-#[derive(Drop)]
+#[derive(Clone, Copy)]
 pub struct Method(pub u8);
 
 impl Method {
@@ -27,7 +27,7 @@ impl Method {
 }
 
 // The node count, the edge count, which tags stood, and the method.
-#[derive(Drop)]
+#[derive(Clone, Copy)]
 pub struct FileSummary {
     pub nodes: usize,
     pub edges: usize,
@@ -36,7 +36,7 @@ pub struct FileSummary {
 }
 
 // What stands in a file, or that it has another layout.
-#[derive(Drop)]
+#[derive(Clone, Copy)]
 pub enum FileLayout {
     Saved(FileSummary),
     Malformed,

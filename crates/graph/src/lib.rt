@@ -68,7 +68,7 @@ impl Graph {
 }
 
 // What is wrong with an input.
-#[derive(Drop)]
+#[derive(Clone, Copy)]
 pub enum Refusal {
     TooManyNodes,
     OddEnds,
@@ -105,21 +105,21 @@ impl Refusal {
 }
 
 // The answer of the graph checks.
-#[derive(Drop)]
+#[derive(Clone, Copy)]
 pub enum Checked {
     Accepted(Graph),
     Refused(Refusal),
 }
 
 // The answer of the incidence table.
-#[derive(Drop)]
+#[derive(Clone, Copy)]
 pub enum IncidenceAnswer {
     Accepted { total: usize },
     Refused(Refusal),
 }
 
 // The answer of every colouring.
-#[derive(Drop)]
+#[derive(Clone, Copy)]
 pub enum Coloring {
     Accepted { days: usize },
     Refused(Refusal),

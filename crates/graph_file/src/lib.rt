@@ -10,7 +10,7 @@ use file_fields::{FileLayout, copy_numbers, layout_of};
 use graph::Refusal;
 
 // The answer of reading a file. Bit t - 1 of `tags` is set where tag t stood; `method` is `Method::UNNAMED` where tag 4 did not stand.
-#[derive(Drop)]
+#[derive(Clone, Copy)]
 pub enum FileAnswer {
     Accepted {
         nodes: usize,
@@ -22,7 +22,7 @@ pub enum FileAnswer {
 }
 
 // Where the colours of a file start, and their number.
-#[derive(Drop)]
+#[derive(Clone, Copy)]
 struct ColorsPlace {
     start: usize,
     count: usize,

@@ -8,7 +8,7 @@ ghost use Rattle.greedy.specs.Call.{check_items, check_nodes, check_edges};
 use graph::{Checked, Refusal, check_graph};
 
 // Which of the strategies colours.
-#[derive(Drop)]
+#[derive(Clone, Copy)]
 pub enum ColoringStrategy {
     Degree,
     Saturation,

@@ -14,7 +14,7 @@ use incidence::incidence_front;
 mod pairs;
 
 // The answer of the line list.
-#[derive(Drop)]
+#[derive(Clone, Copy)]
 pub enum LineList {
     Accepted { pairs: usize },
     Refused(Refusal),

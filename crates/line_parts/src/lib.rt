@@ -42,7 +42,7 @@ fn part_of<'a>(edges: &'a [u16], edge: EdgeIndex, later: bool) -> &'a [u16]
 }
 
 // An edge's ends in order, equal for a loop.
-#[derive(Drop)]
+#[derive(Clone, Copy)]
 struct EdgeEnds {
     pub higher: NodeIndex,
     pub lower: NodeIndex,

@@ -6,14 +6,14 @@ use crate::cursor::{Cursor, next};
 use replay_output::{cut, cut_bytes};
 
 // A number and the place after it.
-#[derive(Drop)]
+#[derive(Clone, Copy)]
 pub struct NumberRead {
     pub value: usize,
     pub input: Cursor,
 }
 
 // How many bytes or numbers were put into a slice, and the place after them.
-#[derive(Drop)]
+#[derive(Clone, Copy)]
 pub struct ListRead {
     pub count: usize,
     pub input: Cursor,

@@ -29,7 +29,7 @@ pub enum Name {
 }
 
 // A name and the place after it.
-#[derive(Drop)]
+#[derive(Clone, Copy)]
 pub struct NameRead {
     pub name: Name,
     pub input: Cursor,

@@ -204,7 +204,7 @@ fn first_unused_of_all(first: &[u16], second: &[u16], colors: &[u16]) -> Color
 }
 
 // The smallest colour that none of these edges has, of the first 4,096, with as many marks as their number asks for.
-pub fn smallest_unused(first: &[u16], second: &[u16], colors: &[u16]) -> Color
+fn smallest_unused(first: &[u16], second: &[u16], colors: &[u16]) -> Color
     ensures answer { let colors = colors.entry.now in let first = first.entry.now in let second = second.entry.now in
         result.0 ≡ smallest_from 4096 (colors_of colors first ++ colors_of colors second) 0 }
 {

@@ -7,7 +7,7 @@ ghost use Rattle.two_color.specs.Components.{Forest, Holds, Joined, Finds, Joins
 use graph::NodeIndex;
 
 // The lowest node of a component, and whether the node that it was asked for is on the odd side.
-#[derive(Drop)]
+#[derive(Clone, Copy)]
 pub struct Root {
     pub node: NodeIndex,
     pub odd: bool,

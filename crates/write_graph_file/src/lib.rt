@@ -12,7 +12,7 @@ mod put;
 mod told;
 
 // The answer of writing a file: how many bytes it has.
-#[derive(Drop)]
+#[derive(Clone, Copy)]
 pub enum WriteAnswer {
     Accepted { length: usize },
     Refused(Refusal),
