@@ -20,7 +20,7 @@ use Rattle.file_layout.specs.Outcomes.{read_checks, read_file, write_checks, wri
 use Rattle.c_answer.specs.Answer.{code}
 use Rattle.c_answer.specs.Strategy.{strategy_of}
 use Rattle.capi.specs.Strategy.{unknown_strategy, by_number, nodes_by_number, edges_by_number}
-use Rattle.capi.specs.Zero.{ZeroAccepts}
+use Rattle.capi.specs.Zero.{ZeroAccepts, EachZeroAccepts}
 
 -- Every check of a list refuses by a number above 0.
 abbrev above_zero : List Check → Bool
@@ -106,3 +106,8 @@ module _ (n : ℕ) (ends : List ℕ) where
 
   pub edges_by_number_zero : (number : ℕ) (presets colors : List ℕ) → ZeroAccepts (edges_by_number number n ends presets colors).report
   edges_by_number_zero number presets colors = by_number_zero number (λ rule. greedy_edges rule n ends presets colors) (unknown_strategy (edge_count ends) n ends presets colors) (λ rule. edges_zero rule presets colors) (unknown_zero (edge_count ends) presets colors)
+
+-- ---- all of them
+
+pub zero_accepts : EachZeroAccepts
+zero_accepts = record { read_file_zero = read_file_zero; incidence_zero = incidence_zero; line_graph_zero = line_graph_zero; two_color_zero = two_color_zero; misra_gries_zero = misra_gries_zero; add_edge_zero = add_edge_zero; write_file_zero = write_file_zero; nodes_plain_zero = nodes_plain_zero; edges_plain_zero = edges_plain_zero; nodes_zero = nodes_zero; nodes_by_number_zero = nodes_by_number_zero; edges_by_number_zero = edges_by_number_zero }
