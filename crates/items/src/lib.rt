@@ -74,7 +74,7 @@ fn count_at(kind: Kind, starts: &[u16], entries: &[u16], node: NodeIndex) -> usi
     }
 }
 
-// How many neighbours the table gives an item. Where the graph passed the checks and the table is its own, it has as many (neighbors-counted).
+// How many neighbours the table gives an item. Where the graph passed the checks and the table is its own, it has as many (neighbors_counted).
 pub fn neighbor_count(
     kind: Kind,
     ends: &[u16],
@@ -95,7 +95,7 @@ pub fn neighbor_count(
 }
 
 // The smallest colour at no far end of a node's edges, or on no edge at an edge's ends. Where the graph passed the checks and the table is its
-// own, it is for an item without a colour the smallest that no neighbour has (free-smallest).
+// own, it is for an item without a colour the smallest that no neighbour has (free_smallest).
 pub fn free_color(
     kind: Kind,
     ends: &[u16],
