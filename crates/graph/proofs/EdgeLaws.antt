@@ -13,8 +13,8 @@ use Rattle.lists.proofs.Tests.{by-test, dec_eq, and_true}
 use Rattle.lists.specs.Member.{Mem, Nodup}
 use Rattle.lists.proofs.MemberLaws.{mem_append, mem_append_left, mem_append_right, nodup_append}
 use Rattle.graph.specs.Edges.{first_end, second_end, is_loop, far_end, keep, second_at, first_edges, second_edges, edges_at, degree, At}
-
 -- No name of it is used: the rows are to be checked before the laws, so that a wrong definition is refused for what it gives.
+use Rattle.graph.specs.Examples
 
 -- ---- far ends
 

@@ -19,6 +19,8 @@ use Rattle.greedy.specs.Turn.{uncolored, color_item}
 use Rattle.greedy.proofs.TurnLaws.{uncolored_member, member_uncolored, uncolored_few, uncolored_less, Partial, partial_presets, partial_turn, partial_greedy, turn_color, turn_here, turn_other, turn_size, color_item_lem}
 use Rattle.greedy.specs.Greedy.{Neighborhood, Greedy}
 use Rattle.greedy.specs.Saturation.{saturation, uncolored_neighbors, greater, greatest, saturation_from, order_from, saturation_colors, none_greater, legal_turn, legal_run}
+-- No name of it is used: the rows are to be checked before the laws, so that a wrong definition is refused for what it gives.
+use Rattle.greedy.specs.Examples
 
 module _ (nb : ℕ → List ℕ) where
   module _ (colors : List ℕ) where

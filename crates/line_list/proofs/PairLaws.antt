@@ -15,8 +15,8 @@ use Rattle.graph.specs.Edges.{edge_count, first_end, second_end, is_loop, far_en
 use Rattle.graph.proofs.EdgeLaws.{far_first, far_second, first_none, second_at_true, second_none}
 use Rattle.line_list.specs.LineList.{pairs_with, pairs_of}
 use Rattle.line_list.specs.LineNeighbors.{before_in, after_in}
-
 -- No name of it is used: the rows are to be checked before the laws, so that a wrong definition is refused for what it gives.
+use Rattle.line_list.specs.Examples
 
 -- ---- the neighbours, two numbers at a time
 

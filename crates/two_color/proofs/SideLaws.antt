@@ -16,6 +16,8 @@ use Rattle.graph.proofs.EdgeLaws.{far_first, far_second}
 use Rattle.two_color.specs.Walk.{is_odd, Walk, stay, along, OddClosedWalk}
 use Rattle.two_color.proofs.WalkLaws.{false_xor, xor_false, not_xor, xor_not, WalkOf, walk_first, walk_second, walk_widen, of_append, of_reverse, of_widen, of_edge}
 use Rattle.two_color.specs.Sides.{lower, gives_way, lowest, odd_side, odd_cycle, side_color, sides}
+-- No name of it is used: the rows are to be checked before the laws, so that a wrong definition is refused for what it gives.
+use Rattle.two_color.specs.Examples
 
 -- ---- the lower of two, and which gives way to it
 

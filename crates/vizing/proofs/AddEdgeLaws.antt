@@ -26,6 +26,7 @@ use Rattle.vizing.specs.Demand3.{max_degree, Admitted, Accurate}
 use Rattle.vizing.specs.MisraGries.{step, held_after, held, has_loop, same_ends, has_double_edge, simple_checks, misra_gries_checks, misra_gries}
 use Rattle.vizing.specs.Step.{Invariant}
 -- No name of it is used: the rows are to be checked before the laws, so that a wrong definition is refused for what it gives.
+use Rattle.vizing.specs.AddEdgeAnswers
 use Rattle.vizing.specs.AddEdge.{has_end, share_end, has_color_above, has_equal_colors, stored_checks, add_edge_checks, stored_list, add_edge, ProperlyStored, Extendable, EdgeAdded, AddingCall, MeetsEdgeAdded, BuiltUp, whole, added, OneByOne}
 use Rattle.vizing.specs.Demand3Examples.{list_p13}
 use Rattle.vizing.specs.WrongCalls.{refuses_all, all_zero, leaves_slice, AddingFalls, unread, keeps_stored, kept_p13, WrongAddingCallsFall}

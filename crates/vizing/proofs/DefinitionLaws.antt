@@ -16,8 +16,8 @@ use Rattle.graph.proofs.ColorLaws.{NoneHas, color_set_other, is_colored_true, co
 use Rattle.graph.specs.Color.{no_color}
 use Rattle.graph.specs.Colored.{color_of, is_colored}
 use Rattle.vizing.specs.MisraGries.{edge_of_color, is_free, store, joins, first_joining, greatest_color, step, Held, step_held}
-
 -- No name of it is used: the rows are to be checked before the laws, so that a wrong definition is refused for what it gives.
+use Rattle.vizing.specs.Answers
 
 -- ---- options
 

@@ -19,8 +19,8 @@ use Rattle.graph.proofs.EdgeLaws.{far_first}
 use Rattle.graph.specs.Colored.{color_of, smallest_free_at}
 use Rattle.vizing.specs.MisraGries.{is_free, store, joins, first_joining, last_of, fan_from, fan_of, path, exchange, first_free_place, rotate, Found, find, step}
 use Rattle.vizing.proofs.DefinitionLaws.{some_or_none}
-
 -- No name of it is used: the rows are to be checked before the laws, so that a wrong definition is refused for what it gives.
+use Rattle.vizing.specs.Answers
 
 -- ---- the parts
 

@@ -11,6 +11,7 @@ use lib.Dec.{eqb, ltb}
 use borrow.Author.Tests.{eqb-false, eq-eqb, ne_eqb, ltb-true, ltb-false, not-true}
 use Rattle.vizing.specs.MisraGries.{Tally, greatest_color, find, step, held_after}
 -- No name of it is used: the rows are to be checked before the laws, so that a wrong definition is refused for what it gives.
+use Rattle.vizing.specs.Answers
 use Rattle.lists.proofs.Tests.{by-test, and_true, true_and}
 use Rattle.lists.specs.Member.{Mem, Nodup}
 use Rattle.lists.proofs.MemberLaws.{dec_mem}

@@ -23,6 +23,7 @@ use Rattle.vizing.proofs.FirstEdges.{first_end_take, second_end_take, edge_count
 use Rattle.vizing.specs.Simple.{SameEnds, Incident}
 use Rattle.vizing.proofs.SimpleLaws.{simple_no_loop, simple_no_double, passed_simple}
 -- No name of it is used: the rows are to be checked before the laws, so that a wrong definition is refused for what it gives.
+use Rattle.vizing.specs.Answers
 use Rattle.graph.proofs.EdgeLaws.{at_edge}
 use Rattle.graph.specs.Report.{accepted, Accepted}
 use Rattle.graph.specs.Color.{days_of, colored}

@@ -14,6 +14,8 @@ use Rattle.vizing.specs.MisraGries.{edge_of_color, is_free, store, joins, first_
 use Rattle.vizing.specs.Demand3.{max_degree}
 use Rattle.vizing.specs.Demand3Examples.{list_p13}
 use Rattle.vizing.specs.AddEdge.{has_end, share_end, has_color_above, has_equal_colors, stored_checks, add_edge_checks, stored_list, add_edge}
+-- No name of it is used: a wrong step is to be refused at the whole call's rows.
+use Rattle.vizing.specs.Answers
 
 unfoldable pub rows : List Row
 rows =
