@@ -6,6 +6,13 @@ use Rattle.graph.proofs.CheckLaws.{passed, graph_accepted}
 use Rattle.simple_graph.proofs.SimpleLaws.{graph_no, starts_short, entries_short, size_no, loop_no, double_no, simple_yes}
 use Rattle.simple_graph.proofs.check_simple.Goals as goal
 
+-- The slices are as `incidence_front` left them.
+pub returns-in-Refused-clause-starts : goal.returns-in-Refused-clause-starts
+returns-in-Refused-clause-starts c = c.incidence_front.ensures.starts
+
+pub returns-in-Refused-clause-entries : goal.returns-in-Refused-clause-entries
+returns-in-Refused-clause-entries c = c.incidence_front.ensures.entries
+
 pub returns-in-Refused-clause-report : goal.returns-in-Refused-clause-report
 returns-in-Refused-clause-report c = graph_no _ _ _ _ _ _ _ c.check_graph.ensures.report c.in-Refused.is
 
