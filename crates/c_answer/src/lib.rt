@@ -2,54 +2,50 @@
 // The strategies by number, too.
 #![tactic(auto)]
 
-ghost use Rattle.graph.specs.Report.{report_of_incidence, report_of_coloring};
-ghost use Rattle.line_graph.specs.LineReport.{report_of_line_list};
+ghost use Rattle.graph.specs.Report.{report_of};
 ghost use Rattle.graph_file.specs.Report.{report_of_file};
-ghost use Rattle.write_graph_file.specs.Report.{report_of_writing};
 ghost use Rattle.c_answer.specs.Answer.{Told};
 
-use graph::{Coloring, IncidenceAnswer};
+use graph::Refusal;
 use graph_file::FileAnswer;
-use line_graph::LineList;
-use write_graph_file::WriteAnswer;
 
 mod strategy;
 
 pub use strategy::{StrategyNumber, strategy_of, unknown_strategy};
 
-pub fn answer_coloring(coloring: Coloring, days: &mut usize) -> u32
-    ensures told { Told (report_of_coloring coloring) days.old result days.new }
+pub fn answer_coloring(coloring: Result<usize, Refusal>, days: &mut usize) -> u32
+    ensures told { Told (report_of coloring) days.old result days.new }
 {
     match coloring {
-        Coloring::Accepted { days: counted } => {
+        Ok(counted) => {
             *days = counted;
             0
         }
-        Coloring::Refused(refusal) => refusal.number(),
+        Err(refusal) => refusal.number(),
     }
 }
 
-pub fn answer_incidence(incidence: IncidenceAnswer, total: &mut usize) -> u32
-    ensures told { Told (report_of_incidence incidence) total.old result total.new }
+pub fn answer_incidence(incidence: Result<usize, Refusal>, total: &mut usize) -> u32
+    ensures told { Told (report_of incidence) total.old result total.new }
 {
     match incidence {
-        IncidenceAnswer::Accepted { total: counted } => {
+        Ok(counted) => {
             *total = counted;
             0
         }
-        IncidenceAnswer::Refused(refusal) => refusal.number(),
+        Err(refusal) => refusal.number(),
     }
 }
 
-pub fn answer_line_list(list: LineList, pairs: &mut usize) -> u32
-    ensures told { Told (report_of_line_list list) pairs.old result pairs.new }
+pub fn answer_line_list(list: Result<usize, Refusal>, pairs: &mut usize) -> u32
+    ensures told { Told (report_of list) pairs.old result pairs.new }
 {
     match list {
-        LineList::Accepted { pairs: counted } => {
+        Ok(counted) => {
             *pairs = counted;
             0
         }
-        LineList::Refused(refusal) => refusal.number(),
+        Err(refusal) => refusal.number(),
     }
 }
 
@@ -80,14 +76,14 @@ pub fn answer_file(
     }
 }
 
-pub fn answer_writing(writing: WriteAnswer, length: &mut usize) -> u32
-    ensures told { Told (report_of_writing writing) length.old result length.new }
+pub fn answer_writing(writing: Result<usize, Refusal>, length: &mut usize) -> u32
+    ensures told { Told (report_of writing) length.old result length.new }
 {
     match writing {
-        WriteAnswer::Accepted { length: counted } => {
+        Ok(counted) => {
             *length = counted;
             0
         }
-        WriteAnswer::Refused(refusal) => refusal.number(),
+        Err(refusal) => refusal.number(),
     }
 }

@@ -3,7 +3,7 @@ ghost use Rattle.std.specs.Prelude.{◌≡◌};
 ghost use Rattle.graph.specs.Report.{report_of_checked};
 ghost use Rattle.c_answer.specs.Strategy.{strategy_of, strategy_named, code_of_unknown};
 
-use graph::Checked;
+use graph::{Graph, Refusal};
 use greedy::ColoringStrategy;
 
 // What a number names.
@@ -25,11 +25,11 @@ pub fn strategy_of(number: u8) -> StrategyNumber
 }
 
 // The answer where no strategy has the number: that of the checks comes first.
-pub fn unknown_strategy(checked: Checked) -> u32
+pub fn unknown_strategy(checked: Result<Graph, Refusal>) -> u32
     ensures answer { result ≡ code_of_unknown (report_of_checked checked) }
 {
     match checked {
-        Checked::Accepted(_) => 255,
-        Checked::Refused(refusal) => refusal.number(),
+        Ok(_) => 255,
+        Err(refusal) => refusal.number(),
     }
 }

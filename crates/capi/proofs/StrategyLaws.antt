@@ -1,4 +1,7 @@
 -- Laws of a call by the strategy of a number: one for each answer of the code.
+use Rattle.graph.specs.declared.Refusal.{Refusal}
+use Rattle.graph.specs.declared.Graph.{Graph}
+use Rattle.std.specs.Prelude.{Result}
 use Prim.Native.Nat.{ℕ}
 use mathlib.Core.Bool.{true}
 use mathlib.Core.List.{List, [], ◌∷◌, ◌++◌}
@@ -10,7 +13,6 @@ use Rattle.graph.specs.Check.{Check, ◌gives◌, first_refusal, answered}
 use Rattle.graph.proofs.CheckLaws.{refused_first, passed_first, first_refuses, answered_refused, answered_accepted, written_refused}
 use Rattle.graph.specs.Color.{Outcome, colored}
 use Rattle.graph.specs.Edges.{edge_count}
-use Rattle.graph.specs.declared.Checked.{Checked}
 use Rattle.greedy.specs.Call.{Rule, rule_of, item_checks, check_items}
 use Rattle.greedy.specs.declared.ColoringStrategy.{ColoringStrategy}
 use Rattle.c_answer.specs.Answer.{Told, Answered}
@@ -28,7 +30,7 @@ refusal checks values = go (first_refusal checks) refl
     go none e = rw (sym (answered_accepted checks values e)) (passed_first checks _ e ∙ first_refuses true 255 [] refl)
     go (some k) e = rw (sym (answered_refused checks k values e)) (refused_first checks _ k e)
 
-module _ (items n : ℕ) (ends presets lent : List ℕ) (c : Checked) (e : report_of_checked c ≡ check_items n ends items (length presets) (length lent)) where
+module _ (items n : ℕ) (ends presets lent : List ℕ) (c : Result Graph Refusal) (e : report_of_checked c ≡ check_items n ends items (length presets) (length lent)) where
   -- Refused by the checks or by 255, the colours as lent.
   unknown_outcome : (refused (code_of_unknown (report_of_checked c)) ≡ (unknown_strategy items n ends presets lent).report) × (lent ≡ (unknown_strategy items n ends presets lent).colors)
   unfolding unknown_strategy colored check_items
@@ -47,7 +49,7 @@ module _ (number : ℕ) (s : StrategyNumber) (e : strategy_named s ≡ strategy_
   known_answered other strategy p report before r after lent t q w =
       let named : strategy_of number ≡ some strategy = sym e ∙ ap strategy_named p in rw (named, by_number) (answered_by report before r after _ _ lent t q w)
 
-  pub unknown_answered : (items n : ℕ) (ends presets lent : List ℕ) → s ≡ N.Unknown → (c : Checked) (before r : ℕ)
+  pub unknown_answered : (items n : ℕ) (ends presets lent : List ℕ) → s ≡ N.Unknown → (c : Result Graph Refusal) (before r : ℕ)
       → r ≡ code_of_unknown (report_of_checked c) → report_of_checked c ≡ check_items n ends items (length presets) (length lent)
       → let outcome = by_number number call (unknown_strategy items n ends presets lent) in Answered outcome.report outcome.colors before r before lent
   unfolding by_number

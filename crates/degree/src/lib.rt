@@ -3,7 +3,7 @@
 #![tactic(auto)]
 
 ghost use Rattle.std.specs.Prelude.{◌≡◌, ℕ, ◌≤◌, ◌<◌, length, get_or};
-ghost use Rattle.graph.specs.Report.{report_of_coloring};
+ghost use Rattle.graph.specs.Report.{report_of};
 ghost use Rattle.graph.specs.Check.{Passed};
 ghost use Rattle.graph.specs.Color.{days_of};
 ghost use Rattle.greedy.specs.Degree.{color_in_order, degree_colors};
@@ -12,7 +12,7 @@ ghost use Rattle.items.specs.Items.{items_of, neighbors_of, greedy_of, Tabled};
 ghost use Rattle.degree.specs.Color.{Waiting, OrderRoom};
 
 use days::days_of;
-use graph::{Checked, Coloring, Graph, NodeIndex, copy_colors};
+use graph::{Graph, NodeIndex, Refusal, copy_colors};
 use incidence::incidence_front;
 use items::{Kind, check_items, free_color, neighbor_count};
 use order::falling_order;
@@ -179,19 +179,25 @@ fn color_items(kind: Kind, n: usize, ends: &[u16], presets: &[u16], colors: &mut
 
 // Presets stand as they are; the other items, by falling degree, ties by rising number, each take the smallest colour that no coloured
 // neighbour has. An input that is refused leaves the colours as lent.
-pub fn color(kind: Kind, n: usize, ends: &[u16], presets: &[u16], colors: &mut [u16]) -> Coloring
+pub fn color(
+    kind: Kind,
+    n: usize,
+    ends: &[u16],
+    presets: &[u16],
+    colors: &mut [u16],
+) -> Result<usize, Refusal>
     ensures report { let ends = ends.entry.now in let presets = presets.entry.now in let colors = colors.entry.now in
-        report_of_coloring result ≡ (greedy_of kind degree_colors n ends presets colors).report }
+        report_of result ≡ (greedy_of kind degree_colors n ends presets colors).report }
     ensures colors { let ends = ends.entry.now in let presets = presets.entry.now in let colors₀ = colors.old in
         colors.new ≡ (greedy_of kind degree_colors n ends presets colors₀).colors }
 {
     match check_items(kind, n, ends, presets.len(), colors.len()) {
-        Checked::Refused(refusal) => {
-            return Coloring::Refused(refusal);
+        Err(refusal) => {
+            return Err(refusal);
         }
-        Checked::Accepted(_graph) => {
+        Ok(_graph) => {
             let days = color_items(kind, n, ends, presets, colors);
-            Coloring::Accepted { days }
+            Ok(days)
         }
     }
 }

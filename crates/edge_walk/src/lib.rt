@@ -9,7 +9,7 @@ use graph::{EdgeIndex, NodeIndex};
 
 pub mod walk;
 
-pub use walk::{EdgeWalk, WalkStep, edge_at};
+pub use walk::{EdgeWalk, edge_at};
 
 // The edges at a node, as a part of the entries. Starts that do not cover the node, fall, or pass the entries' end give the
 // empty part at the front, so no caller has to show that the table is well made.

@@ -13,21 +13,14 @@ pub struct EdgeWalk<'a> {
     pub at: usize,
 }
 
-// The edge at a walk's place and the place after it, or the end.
-#[derive(Clone, Copy)]
-pub enum WalkStep {
-    Edge(EdgeIndex, usize),
-    End,
-}
-
-// What stands at a place of a stretch.
-pub fn step_at(entries: &[u16], at: usize) -> WalkStep
+// The edge at a place of a stretch and the place after it; none at the end.
+pub fn step_at(entries: &[u16], at: usize) -> Option<(EdgeIndex, usize)>
     ensures answer { result ≡ step_at entries.now at }
 {
     if at < entries.len() {
-        WalkStep::Edge(EdgeIndex(entries[at]), at + 1)
+        Some((EdgeIndex(entries[at]), at + 1))
     } else {
-        WalkStep::End
+        None
     }
 }
 
@@ -48,7 +41,7 @@ impl<'a> EdgeWalk<'a> {
     }
 
     // What stands at the walk's place.
-    pub fn peek(self) -> WalkStep
+    pub fn peek(self) -> Option<(EdgeIndex, usize)>
         ensures answer { result ≡ step_at self.entry.entries.now self.entry.at }
     {
         step_at(self.entries, self.at)
@@ -66,7 +59,12 @@ impl<'a> EdgeWalk<'a> {
 }
 
 // What stands at a place of a node's walk.
-pub fn edge_at(starts: &[u16], entries: &[u16], node: NodeIndex, at: usize) -> WalkStep
+pub fn edge_at(
+    starts: &[u16],
+    entries: &[u16],
+    node: NodeIndex,
+    at: usize,
+) -> Option<(EdgeIndex, usize)>
     ensures answer { let starts = starts.entry.now in let entries = entries.entry.now in
         result ≡ step_at (stretch starts entries node.0) at }
 {

@@ -17,8 +17,7 @@ use Rattle.graph.specs.Check.{Check, ◌gives◌, first_refusal, answered, writt
 use Rattle.graph.specs.Edges.{edge_count, first_end, second_end}
 use Rattle.graph.specs.declared.Refusal.{Refusal}
 use Rattle.graph.specs.declared.Graph.{Graph}
-use Rattle.graph.specs.declared.Checked.{Checked}
-use Rattle.graph.specs.declared.Checked.TheVariants as C
+use Rattle.std.specs.Prelude.{Result, Ok, Err}
 
 -- ---- one answer of the graph checks each
 
@@ -150,7 +149,7 @@ answered_cases cs values = go (first_refusal cs) refl
     go (some k) e = inl (k, e, sym (answered_refused cs k values e))
 
 -- A refusal is the first check's that refuses.
-pub checked_refused : (cs : List Check) (values : Sizes) (c : Checked) (r : Refusal) → report_of_checked c ≡ answered cs values → c ≡ C.Refused r → first_refusal cs ≡ some (number r)
+pub checked_refused : (cs : List Check) (values : Sizes) (c : Result Graph Refusal) (r : Refusal) → report_of_checked c ≡ answered cs values → c ≡ Err r → first_refusal cs ≡ some (number r)
 checked_refused cs values c r e p =
     let h : report_of_checked c ≡ refused (number r) = ap report_of_checked p in
     elim (answered_cases cs values) [
@@ -158,7 +157,7 @@ checked_refused cs values c r e p =
       | inr (q, a) ↦ let z : ◌≡◌ {A = ℕ} 0 1 = cc in absurd (omega arith)
     ]
 
-pub checked_accepted : (cs : List Check) (values : Sizes) (c : Checked) (g : Graph) → report_of_checked c ≡ answered cs values → c ≡ C.Accepted g → (first_refusal cs ≡ none) × (g.nodes ≡ values.0) × (g.edges ≡ values.1)
+pub checked_accepted : (cs : List Check) (values : Sizes) (c : Result Graph Refusal) (g : Graph) → report_of_checked c ≡ answered cs values → c ≡ Ok g → (first_refusal cs ≡ none) × (g.nodes ≡ values.0) × (g.edges ≡ values.1)
 checked_accepted cs values c g e p =
     let t : Sizes = (g.nodes, g.edges) in
     let h : report_of_checked c ≡ accepted t = ap report_of_checked p in
@@ -167,10 +166,10 @@ checked_accepted cs values c g e p =
       | inr (q, a) ↦ let i : t ≡ values = cc in (q, ap (λ (x : Sizes). x.0) i, ap (λ (x : Sizes). x.1) i)
     ]
 
-pub graph_refused : (n : ℕ) (ends : List ℕ) (c : Checked) (r : Refusal) → report_of_checked c ≡ check_graph n ends → c ≡ C.Refused r → first_refusal (graph_checks n ends) ≡ some (number r)
+pub graph_refused : (n : ℕ) (ends : List ℕ) (c : Result Graph Refusal) (r : Refusal) → report_of_checked c ≡ check_graph n ends → c ≡ Err r → first_refusal (graph_checks n ends) ≡ some (number r)
 unfolding check_graph
 graph_refused n ends = checked_refused (graph_checks n ends) (n, length ends / 2)
 
-pub graph_accepted : (n : ℕ) (ends : List ℕ) (c : Checked) (g : Graph) → report_of_checked c ≡ check_graph n ends → c ≡ C.Accepted g → (first_refusal (graph_checks n ends) ≡ none) × (g.nodes ≡ n) × (g.edges ≡ edge_count ends)
+pub graph_accepted : (n : ℕ) (ends : List ℕ) (c : Result Graph Refusal) (g : Graph) → report_of_checked c ≡ check_graph n ends → c ≡ Ok g → (first_refusal (graph_checks n ends) ≡ none) × (g.nodes ≡ n) × (g.edges ≡ edge_count ends)
 unfolding check_graph
 graph_accepted n ends = checked_accepted (graph_checks n ends) (n, length ends / 2)

@@ -1,13 +1,8 @@
 -- How a call answers, in the papers' terms: accepted with its values, or refused with a number.
-use Rattle.std.specs.Prelude.{ℕ, ◌≡◌}
+use Rattle.std.specs.Prelude.{ℕ, ◌≡◌, Result, Ok, Err}
+use Rattle.graph.specs.declared.Graph.{Graph}
 use Rattle.graph.specs.declared.Refusal.{Refusal}
 use Rattle.graph.specs.declared.Refusal.TheVariants.{TooManyNodes, OddEnds, TooManyEnds, EndOutside, WrongLength, Loop, DoubleEdge, OddClosedWalk, ShortList, BadFile, BadStoredColors}
-use Rattle.graph.specs.declared.Checked.{Checked}
-use Rattle.graph.specs.declared.Checked.TheVariants as C
-use Rattle.graph.specs.declared.IncidenceAnswer.{IncidenceAnswer}
-use Rattle.graph.specs.declared.IncidenceAnswer.TheVariants as I
-use Rattle.graph.specs.declared.Coloring.{Coloring}
-use Rattle.graph.specs.declared.Coloring.TheVariants as O
 
 -- "A refusal reports its number only."
 pub data Report (A : Type 0) : Type 0 where
@@ -32,17 +27,13 @@ number ShortList = 9
 number BadFile = 10
 number BadStoredColors = 11
 
+-- "Incidence reports the total", "a colouring that is accepted reports `days`": an answer reports what it accepts with, or the number
+-- by which it refuses.
+abbrev pub report_of : {A : Type 0} → Result A Refusal → Report A
+report_of (Ok values) = accepted values
+report_of (Err r) = refused (number r)
+
 -- The graph checks report the node count and the edge count.
-abbrev pub report_of_checked : Checked → Report (ℕ × ℕ)
-report_of_checked (C.Accepted g) = accepted (g.nodes, g.edges)
-report_of_checked (C.Refused r) = refused (number r)
-
--- "Incidence reports the total"
-abbrev pub report_of_incidence : IncidenceAnswer → Report ℕ
-report_of_incidence (I.Accepted total) = accepted total
-report_of_incidence (I.Refused r) = refused (number r)
-
--- "A colouring that is accepted reports `days`"
-abbrev pub report_of_coloring : Coloring → Report ℕ
-report_of_coloring (O.Accepted days) = accepted days
-report_of_coloring (O.Refused r) = refused (number r)
+abbrev pub report_of_checked : Result Graph Refusal → Report (ℕ × ℕ)
+report_of_checked (Ok g) = accepted (g.nodes, g.edges)
+report_of_checked (Err r) = refused (number r)

@@ -6,12 +6,6 @@ ghost use Rattle.lists.specs.Parts.{copied_over};
 pub fn copy_colors(from: &[u16], to: &mut [u16])
     ensures to { let from = from.entry.now in let to₀ = to.old in to.new ≡ copied_over from to₀ }
 {
-    let mut i = 0;
-    while i < from.len() {
-        if to.len() <= i {
-            return;
-        }
-        to[i] = from[i];
-        i += 1;
-    }
+    let count = from.len().min(to.len());
+    to[..count].copy_from_slice(&from[..count]);
 }

@@ -11,15 +11,15 @@ pub use check::check_graph;
 pub use colors::copy_colors;
 
 // A node's number; never taken for an edge's.
-#[derive(Clone, Copy)]
+#[derive(Clone, Copy, PartialEq, Eq, Debug)]
 pub struct NodeIndex(pub u16);
 
 // An edge's number; never taken for a node's.
-#[derive(Clone, Copy)]
+#[derive(Clone, Copy, PartialEq, Eq, Debug)]
 pub struct EdgeIndex(pub u16);
 
 // A colour, 0 to 65,534, or none.
-#[derive(Clone, Copy)]
+#[derive(Clone, Copy, PartialEq, Eq, Debug)]
 pub struct Color(pub u16);
 
 impl Color {
@@ -34,7 +34,7 @@ impl Color {
 }
 
 // The sizes of a graph that passed the checks.
-#[derive(Clone, Copy)]
+#[derive(Clone, Copy, PartialEq, Eq, Debug)]
 pub struct Graph {
     pub nodes: usize,
     pub edges: usize,
@@ -68,7 +68,7 @@ impl Graph {
 }
 
 // What is wrong with an input.
-#[derive(Clone, Copy)]
+#[derive(Clone, Copy, PartialEq, Eq, Debug)]
 pub enum Refusal {
     TooManyNodes,
     OddEnds,
@@ -102,25 +102,4 @@ impl Refusal {
             Refusal::BadStoredColors => 11,
         }
     }
-}
-
-// The answer of the graph checks.
-#[derive(Clone, Copy)]
-pub enum Checked {
-    Accepted(Graph),
-    Refused(Refusal),
-}
-
-// The answer of the incidence table.
-#[derive(Clone, Copy)]
-pub enum IncidenceAnswer {
-    Accepted { total: usize },
-    Refused(Refusal),
-}
-
-// The answer of every colouring.
-#[derive(Clone, Copy)]
-pub enum Coloring {
-    Accepted { days: usize },
-    Refused(Refusal),
 }

@@ -17,8 +17,7 @@ use Rattle.graph.specs.Edges.{edge_count, neighbors, first_end, second_end}
 use Rattle.graph.specs.Color.{days_of, colored, no_color}
 use Rattle.graph.specs.declared.Refusal.{Refusal}
 use Rattle.graph.specs.declared.Graph.{Graph}
-use Rattle.graph.specs.declared.Checked.{Checked}
-use Rattle.graph.specs.declared.Checked.TheVariants as C
+use Rattle.std.specs.Prelude.{Result, Ok, Err}
 use Rattle.greedy.specs.Call.{Rule, item_checks, check_items, greedy_items, check_nodes, greedy_nodes, edge_neighbors, check_edges, greedy_edges, greedy_items_plain, greedy_nodes_plain, greedy_edges_plain, PrecoloringKept, ProperNodeColoring, ProperEdgeColoring}
 use Rattle.lists.specs.Member.{Mem}
 use Rattle.graph.proofs.EdgeLaws.{far_first}
@@ -40,11 +39,11 @@ module _ (n : ℕ) (ends : List ℕ) (items presets colors : ℕ) where
   unfolding check_items
   refuses k e = answered_refused (item_checks n ends items presets colors) k _ e
 
-  pub check_refuses : (c : Checked) (r : Refusal) → report_of_checked c ≡ check_graph n ends → c ≡ C.Refused r → refused (number r) ≡ check_items n ends items presets colors
+  pub check_refuses : (c : Result Graph Refusal) (r : Refusal) → report_of_checked c ≡ check_graph n ends → c ≡ Err r → refused (number r) ≡ check_items n ends items presets colors
   unfolding item_checks
   check_refuses c r e p = refuses (number r) (refused_first (graph_checks n ends) ((wrong gives 5) ∷ []) (number r) (graph_refused n ends c r e p))
 
-  module _ (c : Checked) (g : Graph) (e : report_of_checked c ≡ check_graph n ends) (p : c ≡ C.Accepted g) where
+  module _ (c : Result Graph Refusal) (g : Graph) (e : report_of_checked c ≡ check_graph n ends) (p : c ≡ Ok g) where
     after_graph_lem : first_refusal (item_checks n ends items presets colors) ≡ first_refusal ((wrong gives 5) ∷ [])
     unfolding item_checks
     after_graph_lem = passed_first (graph_checks n ends) ((wrong gives 5) ∷ []) (graph_accepted n ends c g e p).0
@@ -67,8 +66,8 @@ module _ (n : ℕ) (ends : List ℕ) (items presets colors : ℕ) where
         rw (q.1, q.2) (answered_accepted (item_checks n ends items presets colors) (n, edge_count ends) (after_graph_lem ∙ (first_passes wrong 5 [] t ∙ all_passed)))
 
 -- Presets of a wrong length are refused where the graph passes its checks.
-pub presets_refused : (n : ℕ) (ends : List ℕ) (items presets colors : ℕ) (g : Graph) → report_of_checked (C.Accepted g) ≡ check_graph n ends → colors ≡ items → (presets ≡ items → ⊥) → refused 5 ≡ check_items n ends items presets colors
-presets_refused n ends items presets colors g e = presets_wrong n ends items presets colors (C.Accepted g) g e refl
+pub presets_refused : (n : ℕ) (ends : List ℕ) (items presets colors : ℕ) (g : Graph) → report_of_checked (Ok g) ≡ check_graph n ends → colors ≡ items → (presets ≡ items → ⊥) → refused 5 ≡ check_items n ends items presets colors
+presets_refused n ends items presets colors g e = presets_wrong n ends items presets colors (Ok g) g e refl
 
 -- What the checks leave.
 item_checks_passed : (n : ℕ) (ends : List ℕ) (items presets colors : ℕ) → first_refusal (item_checks n ends items presets colors) ≡ none → Passed n ends × (presets ≡ items) × (colors ≡ items)
@@ -102,35 +101,35 @@ module _ (nb : ℕ → List ℕ) (items n : ℕ) (ends presets lent : List ℕ) 
     unfolding greedy_items colored
     items_accepted e days answer a d = (ap accepted (d ∙ ap days_of a) ∙ answered_accepted checks _ e, a ∙ written_accepted checks _ _ e)
 
-  module _ (c : Checked) (e : report_of_checked c ≡ check_items n ends items (length presets) (length lent)) where
-    no_refusal : (g : Graph) → c ≡ C.Accepted g → first_refusal checks ≡ none
+  module _ (c : Result Graph Refusal) (e : report_of_checked c ≡ check_items n ends items (length presets) (length lent)) where
+    no_refusal : (g : Graph) → c ≡ Ok g → first_refusal checks ≡ none
     unfolding check_items
     no_refusal g p = (checked_accepted checks (n, edge_count ends) c g e p).0
 
-    pub items_no : (rule : Rule) (r : Refusal) → c ≡ C.Refused r → (refused (number r) ≡ (greedy_items rule nb items n ends presets lent).report) × (lent ≡ (greedy_items rule nb items n ends presets lent).colors)
+    pub items_no : (rule : Rule) (r : Refusal) → c ≡ Err r → (refused (number r) ≡ (greedy_items rule nb items n ends presets lent).report) × (lent ≡ (greedy_items rule nb items n ends presets lent).colors)
     unfolding check_items
     items_no rule r p = items_refused rule (number r) (checked_refused checks (n, edge_count ends) c r e p)
 
-    pub items_passed : (g : Graph) → c ≡ C.Accepted g → Passed n ends × (length presets ≡ items) × (length lent ≡ items)
+    pub items_passed : (g : Graph) → c ≡ Ok g → Passed n ends × (length presets ≡ items) × (length lent ≡ items)
     items_passed g p = item_checks_passed n ends items (length presets) (length lent) (no_refusal g p)
 
-    pub items_yes : (rule : Rule) (g : Graph) → c ≡ C.Accepted g → (days : ℕ) (answer : List ℕ) → answer ≡ rule nb items presets → days ≡ days_of answer
+    pub items_yes : (rule : Rule) (g : Graph) → c ≡ Ok g → (days : ℕ) (answer : List ℕ) → answer ≡ rule nb items presets → days ≡ days_of answer
         → (accepted days ≡ (greedy_items rule nb items n ends presets lent).report) × (answer ≡ (greedy_items rule nb items n ends presets lent).colors)
     items_yes rule g p = items_accepted rule (no_refusal g p)
 
 -- ---- nodes
 
-pub nodes_no : (rule : Rule) (n : ℕ) (ends presets lent : List ℕ) (c : Checked) (r : Refusal) → report_of_checked c ≡ check_nodes n ends (length presets) (length lent) → c ≡ C.Refused r
+pub nodes_no : (rule : Rule) (n : ℕ) (ends presets lent : List ℕ) (c : Result Graph Refusal) (r : Refusal) → report_of_checked c ≡ check_nodes n ends (length presets) (length lent) → c ≡ Err r
     → (refused (number r) ≡ (greedy_nodes rule n ends presets lent).report) × (lent ≡ (greedy_nodes rule n ends presets lent).colors)
 unfolding check_nodes greedy_nodes
 nodes_no rule n ends presets lent c r e p = items_no (neighbors ends (edge_count ends)) n n ends presets lent c e rule r p
 
-pub nodes_passed : (n : ℕ) (ends presets lent : List ℕ) (c : Checked) (g : Graph) → report_of_checked c ≡ check_nodes n ends (length presets) (length lent) → c ≡ C.Accepted g
+pub nodes_passed : (n : ℕ) (ends presets lent : List ℕ) (c : Result Graph Refusal) (g : Graph) → report_of_checked c ≡ check_nodes n ends (length presets) (length lent) → c ≡ Ok g
     → Passed n ends × (length presets ≡ n) × (length lent ≡ n)
 unfolding check_nodes
 nodes_passed n ends presets lent c g e p = items_passed (neighbors ends (edge_count ends)) n n ends presets lent c e g p
 
-pub nodes_yes : (rule : Rule) (n : ℕ) (ends presets lent : List ℕ) (c : Checked) (g : Graph) → report_of_checked c ≡ check_nodes n ends (length presets) (length lent) → c ≡ C.Accepted g
+pub nodes_yes : (rule : Rule) (n : ℕ) (ends presets lent : List ℕ) (c : Result Graph Refusal) (g : Graph) → report_of_checked c ≡ check_nodes n ends (length presets) (length lent) → c ≡ Ok g
     → (days : ℕ) (answer : List ℕ) → answer ≡ rule (neighbors ends (edge_count ends)) n presets → days ≡ days_of answer
     → (accepted days ≡ (greedy_nodes rule n ends presets lent).report) × (answer ≡ (greedy_nodes rule n ends presets lent).colors)
 unfolding check_nodes greedy_nodes
@@ -138,17 +137,17 @@ nodes_yes rule n ends presets lent c g e p = items_yes (neighbors ends (edge_cou
 
 -- ---- edges
 
-pub edges_no : (rule : Rule) (n : ℕ) (ends presets lent : List ℕ) (c : Checked) (r : Refusal) → report_of_checked c ≡ check_edges n ends (length presets) (length lent) → c ≡ C.Refused r
+pub edges_no : (rule : Rule) (n : ℕ) (ends presets lent : List ℕ) (c : Result Graph Refusal) (r : Refusal) → report_of_checked c ≡ check_edges n ends (length presets) (length lent) → c ≡ Err r
     → (refused (number r) ≡ (greedy_edges rule n ends presets lent).report) × (lent ≡ (greedy_edges rule n ends presets lent).colors)
 unfolding check_edges greedy_edges
 edges_no rule n ends presets lent c r e p = items_no (edge_neighbors n ends) (edge_count ends) n ends presets lent c e rule r p
 
-pub edges_passed : (n : ℕ) (ends presets lent : List ℕ) (c : Checked) (g : Graph) → report_of_checked c ≡ check_edges n ends (length presets) (length lent) → c ≡ C.Accepted g
+pub edges_passed : (n : ℕ) (ends presets lent : List ℕ) (c : Result Graph Refusal) (g : Graph) → report_of_checked c ≡ check_edges n ends (length presets) (length lent) → c ≡ Ok g
     → Passed n ends × (length presets ≡ edge_count ends) × (length lent ≡ edge_count ends)
 unfolding check_edges
 edges_passed n ends presets lent c g e p = items_passed (edge_neighbors n ends) (edge_count ends) n ends presets lent c e g p
 
-pub edges_yes : (rule : Rule) (n : ℕ) (ends presets lent : List ℕ) (c : Checked) (g : Graph) → report_of_checked c ≡ check_edges n ends (length presets) (length lent) → c ≡ C.Accepted g
+pub edges_yes : (rule : Rule) (n : ℕ) (ends presets lent : List ℕ) (c : Result Graph Refusal) (g : Graph) → report_of_checked c ≡ check_edges n ends (length presets) (length lent) → c ≡ Ok g
     → (days : ℕ) (answer : List ℕ) → answer ≡ rule (edge_neighbors n ends) (edge_count ends) presets → days ≡ days_of answer
     → (accepted days ≡ (greedy_edges rule n ends presets lent).report) × (answer ≡ (greedy_edges rule n ends presets lent).colors)
 unfolding check_edges greedy_edges

@@ -5,7 +5,7 @@ ghost use Rattle.std.specs.Prelude.{◌≡◌};
 ghost use Rattle.graph.specs.Report.{report_of_checked};
 ghost use Rattle.greedy.specs.Call.{check_items, check_nodes, check_edges};
 
-use graph::{Checked, Refusal, check_graph};
+use graph::{Graph, Refusal, check_graph};
 
 // Which of the strategies colours.
 #[derive(Clone, Copy)]
@@ -17,34 +17,40 @@ pub enum ColoringStrategy {
 
 // The checks, given how many items, presets and colours there are.
 #[tactic(auto, using(crate::proofs::CallLaws::presets_refused))]
-fn check_items(n: usize, ends: &[u16], items: usize, presets: usize, colors: usize) -> Checked
+fn check_items(
+    n: usize,
+    ends: &[u16],
+    items: usize,
+    presets: usize,
+    colors: usize,
+) -> Result<Graph, Refusal>
     ensures report { report_of_checked result ≡ check_items n ends.now items presets colors }
 {
     match check_graph(n, ends) {
-        Checked::Refused(refusal) => {
-            return Checked::Refused(refusal);
+        Err(refusal) => {
+            return Err(refusal);
         }
-        Checked::Accepted(graph) => {
+        Ok(graph) => {
             if colors != items {
-                return Checked::Refused(Refusal::WrongLength);
+                return Err(Refusal::WrongLength);
             }
             if presets != items {
-                return Checked::Refused(Refusal::WrongLength);
+                return Err(Refusal::WrongLength);
             }
-            Checked::Accepted(graph)
+            Ok(graph)
         }
     }
 }
 
 // The checks of node colouring, given how many presets and colours are lent.
-pub fn check_nodes(n: usize, ends: &[u16], presets: usize, colors: usize) -> Checked
+pub fn check_nodes(n: usize, ends: &[u16], presets: usize, colors: usize) -> Result<Graph, Refusal>
     ensures report { report_of_checked result ≡ check_nodes n ends.now presets colors }
 {
     check_items(n, ends, n, presets, colors)
 }
 
 // The same of edge colouring.
-pub fn check_edges(n: usize, ends: &[u16], presets: usize, colors: usize) -> Checked
+pub fn check_edges(n: usize, ends: &[u16], presets: usize, colors: usize) -> Result<Graph, Refusal>
     ensures report { report_of_checked result ≡ check_edges n ends.now presets colors }
 {
     check_items(n, ends, ends.len() / 2, presets, colors)

@@ -3,7 +3,7 @@
 
 ghost use Rattle.std.specs.Prelude.{◌≡◌, length};
 ghost use Rattle.graph.specs.Check.{Passed};
-ghost use Rattle.graph.specs.Report.{report_of_coloring};
+ghost use Rattle.graph.specs.Report.{report_of};
 ghost use Rattle.greedy.specs.Call.{greedy_nodes, greedy_edges};
 ghost use Rattle.greedy.specs.IndependentSet.{independent_set_colors};
 ghost use Rattle.independent_set.specs.Items.{neighbors_of, count_of};
@@ -11,7 +11,7 @@ ghost use Rattle.independent_set.specs.Items.{neighbors_of, count_of};
 use crate::items::Items;
 use crate::list::list_uncolored;
 use days::days_of;
-use graph::{Checked, Coloring, Graph, copy_colors};
+use graph::{Graph, Refusal, copy_colors};
 use greedy::{check_edges, check_nodes};
 use incidence::incidence_front;
 
@@ -51,17 +51,22 @@ fn color_checked(items: Items, ends: &[u16], presets: &[u16], colors: &mut [u16]
 }
 
 // Node colouring with presets, by independent sets.
-pub fn color_nodes(n: usize, ends: &[u16], presets: &[u16], colors: &mut [u16]) -> Coloring
+pub fn color_nodes(
+    n: usize,
+    ends: &[u16],
+    presets: &[u16],
+    colors: &mut [u16],
+) -> Result<usize, Refusal>
     ensures report { let ends = ends.entry.now in let presets = presets.entry.now in let colors = colors.entry.now in
-        report_of_coloring result ≡ (greedy_nodes independent_set_colors n ends presets colors).report }
+        report_of result ≡ (greedy_nodes independent_set_colors n ends presets colors).report }
     ensures colors { let ends = ends.entry.now in let presets = presets.entry.now in let colors₀ = colors.old in
         colors.new ≡ (greedy_nodes independent_set_colors n ends presets colors₀).colors }
 {
     match check_nodes(n, ends, presets.len(), colors.len()) {
-        Checked::Refused(refusal) => {
-            return Coloring::Refused(refusal);
+        Err(refusal) => {
+            return Err(refusal);
         }
-        Checked::Accepted(_) => {
+        Ok(_) => {
             let items = Items {
                 edges: false,
                 nodes: n,
@@ -69,23 +74,28 @@ pub fn color_nodes(n: usize, ends: &[u16], presets: &[u16], colors: &mut [u16]) 
             };
             color_checked(items, ends, presets, colors);
             let days = days_of(colors);
-            Coloring::Accepted { days }
+            Ok(days)
         }
     }
 }
 
 // Edge colouring with presets, by independent sets of the line list, which is never stored.
-pub fn color_edges(n: usize, ends: &[u16], presets: &[u16], colors: &mut [u16]) -> Coloring
+pub fn color_edges(
+    n: usize,
+    ends: &[u16],
+    presets: &[u16],
+    colors: &mut [u16],
+) -> Result<usize, Refusal>
     ensures report { let ends = ends.entry.now in let presets = presets.entry.now in let colors = colors.entry.now in
-        report_of_coloring result ≡ (greedy_edges independent_set_colors n ends presets colors).report }
+        report_of result ≡ (greedy_edges independent_set_colors n ends presets colors).report }
     ensures colors { let ends = ends.entry.now in let presets = presets.entry.now in let colors₀ = colors.old in
         colors.new ≡ (greedy_edges independent_set_colors n ends presets colors₀).colors }
 {
     match check_edges(n, ends, presets.len(), colors.len()) {
-        Checked::Refused(refusal) => {
-            return Coloring::Refused(refusal);
+        Err(refusal) => {
+            return Err(refusal);
         }
-        Checked::Accepted(_) => {
+        Ok(_) => {
             let items = Items {
                 edges: true,
                 nodes: n,
@@ -93,7 +103,7 @@ pub fn color_edges(n: usize, ends: &[u16], presets: &[u16], colors: &mut [u16]) 
             };
             color_checked(items, ends, presets, colors);
             let count = days_of(colors);
-            Coloring::Accepted { days: count }
+            Ok(count)
         }
     }
 }

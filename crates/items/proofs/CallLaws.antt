@@ -8,8 +8,7 @@ use Rattle.graph.specs.Check.{Passed}
 use Rattle.graph.specs.Color.{days_of}
 use Rattle.graph.specs.declared.Refusal.{Refusal}
 use Rattle.graph.specs.declared.Graph.{Graph}
-use Rattle.graph.specs.declared.Checked.{Checked}
-use Rattle.graph.specs.declared.Checked.TheVariants as C
+use Rattle.std.specs.Prelude.{Result, Ok, Err}
 use Rattle.greedy.specs.Call.{Rule, check_items, check_nodes, check_edges, greedy_items, greedy_nodes, greedy_edges}
 use Rattle.greedy.proofs.CallLaws.{items_no, items_passed, items_yes}
 use Rattle.items.specs.declared.Kind.{Kind}
@@ -35,13 +34,13 @@ unfolding greedy_nodes greedy_edges neighbors_of
 greedy_of_lem Nodes rule n ends presets lent = refl
 greedy_of_lem Edges rule n ends presets lent = refl
 
-module _ (kind : Kind) (n : ℕ) (ends presets lent : List ℕ) (c : Checked) (e : report_of_checked c ≡ check_items n ends (items_of kind n ends) (length presets) (length lent)) where
-  pub call_refused : (rule : Rule) (r : Refusal) → c ≡ C.Refused r → (refused (number r) ≡ (greedy_of kind rule n ends presets lent).report) × (lent ≡ (greedy_of kind rule n ends presets lent).colors)
+module _ (kind : Kind) (n : ℕ) (ends presets lent : List ℕ) (c : Result Graph Refusal) (e : report_of_checked c ≡ check_items n ends (items_of kind n ends) (length presets) (length lent)) where
+  pub call_refused : (rule : Rule) (r : Refusal) → c ≡ Err r → (refused (number r) ≡ (greedy_of kind rule n ends presets lent).report) × (lent ≡ (greedy_of kind rule n ends presets lent).colors)
   call_refused rule r p = rw (greedy_of_lem kind rule n ends presets lent) (items_no (neighbors_of kind n ends) (items_of kind n ends) n ends presets lent c e rule r p)
 
-  pub call_passed : (g : Graph) → c ≡ C.Accepted g → Passed n ends × (length presets ≡ items_of kind n ends) × (length lent ≡ items_of kind n ends)
+  pub call_passed : (g : Graph) → c ≡ Ok g → Passed n ends × (length presets ≡ items_of kind n ends) × (length lent ≡ items_of kind n ends)
   call_passed g p = items_passed (neighbors_of kind n ends) (items_of kind n ends) n ends presets lent c e g p
 
-  pub call_accepted : (rule : Rule) (g : Graph) → c ≡ C.Accepted g → (days : ℕ) (answer : List ℕ) → answer ≡ rule (neighbors_of kind n ends) (items_of kind n ends) presets → days ≡ days_of answer
+  pub call_accepted : (rule : Rule) (g : Graph) → c ≡ Ok g → (days : ℕ) (answer : List ℕ) → answer ≡ rule (neighbors_of kind n ends) (items_of kind n ends) presets → days ≡ days_of answer
       → (accepted days ≡ (greedy_of kind rule n ends presets lent).report) × (answer ≡ (greedy_of kind rule n ends presets lent).colors)
   call_accepted rule g p days answer a d = rw (greedy_of_lem kind rule n ends presets lent) (items_yes (neighbors_of kind n ends) (items_of kind n ends) n ends presets lent c e rule g p days answer a d)

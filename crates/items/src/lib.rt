@@ -8,7 +8,7 @@ ghost use Rattle.greedy.specs.Call.{check_items};
 ghost use Rattle.items.specs.Items.{items_of, first_node, second_node, across_of, count_at, neighbor_count, free_color};
 
 use edge_walk::{edges_at, end_at, far_end};
-use graph::{Checked, Color, EdgeIndex, NodeIndex};
+use graph::{Color, EdgeIndex, Graph, NodeIndex, Refusal};
 use greedy::{check_edges, check_nodes};
 use line_graph::{edge_of_node, node_of_edge};
 use smallest_color::{smallest_color, smallest_edge_color};
@@ -21,7 +21,13 @@ pub enum Kind {
 }
 
 // The checks of colouring these items, given how many presets and colours are lent.
-pub fn check_items(kind: Kind, n: usize, ends: &[u16], presets: usize, colors: usize) -> Checked
+pub fn check_items(
+    kind: Kind,
+    n: usize,
+    ends: &[u16],
+    presets: usize,
+    colors: usize,
+) -> Result<Graph, Refusal>
     ensures report { let ends = ends.entry.now in report_of_checked result ≡ check_items n ends (items_of kind n ends) presets colors }
 {
     match kind {

@@ -16,8 +16,7 @@ use Rattle.graph.specs.Table.{over}
 use Rattle.graph.proofs.NeighborLaws.{degree_bound}
 use Rattle.graph.specs.declared.Refusal.{Refusal}
 use Rattle.graph.specs.declared.Graph.{Graph}
-use Rattle.graph.specs.declared.Checked.{Checked}
-use Rattle.graph.specs.declared.Checked.TheVariants as C
+use Rattle.std.specs.Prelude.{Result, Ok, Err}
 use Rattle.line_list.specs.LineList.{line_pairs, line_checks, line_graph}
 use Rattle.line_graph.specs.WrittenPairs.{pairs_below}
 use Rattle.line_graph.proofs.WrittenPairsLaws.{table_pairs}
@@ -32,11 +31,11 @@ module _ (n : ℕ) (ends lent : List ℕ) where
   unfolding line_graph
   refuses k e = (answered_refused _ k _ e, written_refused _ k _ _ e)
 
-  pub line_refused : (c : Checked) (r : Refusal) → report_of_checked c ≡ check_graph n ends → c ≡ C.Refused r → (refused (number r) ≡ (line_graph n ends lent).report) × (lent ≡ (line_graph n ends lent).list)
+  pub line_refused : (c : Result Graph Refusal) (r : Refusal) → report_of_checked c ≡ check_graph n ends → c ≡ Err r → (refused (number r) ≡ (line_graph n ends lent).report) × (lent ≡ (line_graph n ends lent).list)
   unfolding line_checks
   line_refused c r e p = refuses (number r) (refused_first (graph_checks n ends) _ (number r) (graph_refused n ends c r e p))
 
-  pub line_passed : (c : Checked) (g : Graph) → report_of_checked c ≡ check_graph n ends → c ≡ C.Accepted g → Passed n ends
+  pub line_passed : (c : Result Graph Refusal) (g : Graph) → report_of_checked c ≡ check_graph n ends → c ≡ Ok g → Passed n ends
   line_passed c g e p = passed n ends (graph_accepted n ends c g e p).0
 
   module _ (p : Passed n ends) (starts entries : List ℕ) (table : Table ends n starts entries) (total : ℕ) (e : total ≡ length (pairs_below starts entries n)) where

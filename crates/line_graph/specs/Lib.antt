@@ -1,3 +1,2 @@
 -- The line list as the call answers and writes it.
-pub mod LineReport
 pub mod WrittenPairs

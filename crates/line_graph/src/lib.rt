@@ -4,21 +4,14 @@
 ghost use Rattle.std.specs.Prelude.{◌≡◌, ◌≤◌, ◌<◌, length};
 ghost use Rattle.graph.specs.Check.{Passed};
 ghost use Rattle.graph.specs.Stretch.{Table};
-ghost use Rattle.line_graph.specs.LineReport.{report_of_line_list};
+ghost use Rattle.graph.specs.Report.{report_of};
 ghost use Rattle.line_graph.specs.WrittenPairs.{pairs_below};
 ghost use Rattle.line_list.specs.LineList.{line_graph};
 
-use graph::{Checked, EdgeIndex, Graph, NodeIndex, Refusal, check_graph};
+use graph::{EdgeIndex, Graph, NodeIndex, Refusal, check_graph};
 use incidence::incidence_front;
 
 mod pairs;
-
-// The answer of the line list.
-#[derive(Clone, Copy)]
-pub enum LineList {
-    Accepted { pairs: usize },
-    Refused(Refusal),
-}
 
 // The node of the line graph that an edge becomes. A `NodeIndex` is made of an `EdgeIndex` by this function alone, and the other way by the
 // next; slices hold plain numbers.
@@ -55,25 +48,25 @@ fn list_by_table(
     entries: &[u16],
     total: usize,
     list: &mut [u16],
-) -> LineList
+) -> Result<usize, Refusal>
     requires passed { Passed n ends.now }
     requires table { Table ends.now n starts.now entries.now }
     requires total_value { total ≡ length (pairs_below starts.now entries.now n) }
-    ensures report { let ends = ends.entry.now in let list = list.entry.now in report_of_line_list result ≡ (line_graph n ends list).report }
+    ensures report { let ends = ends.entry.now in let list = list.entry.now in report_of result ≡ (line_graph n ends list).report }
     ensures list { let ends = ends.entry.now in let list₀ = list.old in list.new ≡ (line_graph n ends list₀).list }
 {
     if list.len() < total {
-        return LineList::Refused(Refusal::ShortList);
+        return Err(Refusal::ShortList);
     }
     pairs::write_pairs(n, starts, entries, list);
-    LineList::Accepted { pairs: total / 2 }
+    Ok(total / 2)
 }
 
 // A small graph, which needs short arrays only.
-fn list_small(n: usize, ends: &[u16], list: &mut [u16]) -> LineList
+fn list_small(n: usize, ends: &[u16], list: &mut [u16]) -> Result<usize, Refusal>
     requires passed { Passed n ends.now }
     requires n_bound { (n ≤ 64) × (length ends.now ≤ 512) }
-    ensures report { let ends = ends.entry.now in let list = list.entry.now in report_of_line_list result ≡ (line_graph n ends list).report }
+    ensures report { let ends = ends.entry.now in let list = list.entry.now in report_of result ≡ (line_graph n ends list).report }
     ensures list { let ends = ends.entry.now in let list₀ = list.old in list.new ≡ (line_graph n ends list₀).list }
 {
     let mut starts = [0u16; Graph::SMALL_STARTS];
@@ -83,9 +76,9 @@ fn list_small(n: usize, ends: &[u16], list: &mut [u16]) -> LineList
 }
 
 // Any graph, in arrays as long as the limits ask.
-fn list_large(n: usize, ends: &[u16], list: &mut [u16]) -> LineList
+fn list_large(n: usize, ends: &[u16], list: &mut [u16]) -> Result<usize, Refusal>
     requires { Passed n ends.now }
-    ensures report { let ends = ends.entry.now in let list = list.entry.now in report_of_line_list result ≡ (line_graph n ends list).report }
+    ensures report { let ends = ends.entry.now in let list = list.entry.now in report_of result ≡ (line_graph n ends list).report }
     ensures list { let ends = ends.entry.now in let list₀ = list.old in list.new ≡ (line_graph n ends list₀).list }
 {
     let mut starts = [0u16; Graph::STARTS];
@@ -95,9 +88,9 @@ fn list_large(n: usize, ends: &[u16], list: &mut [u16]) -> LineList
 }
 
 // Short arrays where they suffice: clearing the others costs more than a small graph's pairs.
-fn list_pairs(n: usize, ends: &[u16], list: &mut [u16]) -> LineList
+fn list_pairs(n: usize, ends: &[u16], list: &mut [u16]) -> Result<usize, Refusal>
     requires { Passed n ends.now }
-    ensures report { let ends = ends.entry.now in let list = list.entry.now in report_of_line_list result ≡ (line_graph n ends list).report }
+    ensures report { let ends = ends.entry.now in let list = list.entry.now in report_of result ≡ (line_graph n ends list).report }
     ensures list { let ends = ends.entry.now in let list₀ = list.old in list.new ≡ (line_graph n ends list₀).list }
 {
     if Graph::SMALL_NODES < n {
@@ -110,14 +103,14 @@ fn list_pairs(n: usize, ends: &[u16], list: &mut [u16]) -> LineList
 }
 
 // For nodes rising, each edge at the node is paired with those after it there; numbers beyond the pairs stay as lent.
-pub fn line_graph(n: usize, ends: &[u16], list: &mut [u16]) -> LineList
-    ensures report { let ends = ends.entry.now in let list = list.entry.now in report_of_line_list result ≡ (line_graph n ends list).report }
+pub fn line_graph(n: usize, ends: &[u16], list: &mut [u16]) -> Result<usize, Refusal>
+    ensures report { let ends = ends.entry.now in let list = list.entry.now in report_of result ≡ (line_graph n ends list).report }
     ensures list { let ends = ends.entry.now in let list₀ = list.old in list.new ≡ (line_graph n ends list₀).list }
 {
     match check_graph(n, ends) {
-        Checked::Refused(refusal) => {
-            return LineList::Refused(refusal);
+        Err(refusal) => {
+            return Err(refusal);
         }
-        Checked::Accepted(_) => list_pairs(n, ends, list),
+        Ok(_) => list_pairs(n, ends, list),
     }
 }

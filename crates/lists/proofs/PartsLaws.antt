@@ -1,5 +1,5 @@
 -- Laws of what specs/Parts defines.
-use Prim.Native.Nat.{zero, ℕ, suc, ◌+◌, ◌-◌, ◌≤◌, ◌<◌}
+use Prim.Native.Nat.{zero, ℕ, suc, min, ◌+◌, ◌-◌, ◌≤◌, ◌<◌}
 use mathlib.Core.Path.{refl, ◌≡◌, ap, sym, ◌∙◌}
 use mathlib.Core.Logic.{◌⊎◌, inl, inr}
 use mathlib.Core.List.{append-nil, List, [], ◌∷◌, ◌++◌}
@@ -7,6 +7,9 @@ use native.Mathlib.Numerals.{add-one}
 use native.Mathlib.Omega.{arith}
 use lib.ListN.{take, drop, set, drop_of_length-le, get_or, replicate, length, length-set}
 use lib.Seq.{drop-length, take-length, set_at, take-suc, take_all, append_snoc, drop-cons, drop-set-lt, drop-set-add, take-set-le, get_or-set_same, length-take-le, take-add, drop-drop}
+use lib.Dec.{ltb}
+use borrow.Author.Tests.{ltb-true, ltb-false}
+use Rattle.lists.proofs.Tests.{by-test}
 use Rattle.lists.specs.Parts.{part, copied_over, overwrite}
 
 pub part_empty : (l : List ℕ) (a : ℕ) → part l a a ≡ []
@@ -54,6 +57,14 @@ unfolding copied_over
 copied_end s d c i e a b h =
     let p : i ≡ length s = omega arith in
     rw (e, p, take-length s, take_all (length d) s (omega arith))
+
+-- As many numbers as both have, copied at once.
+pub copied_count : (s d c : List ℕ) (k : ℕ) → k ≡ min (length s) (length d) → c ≡ take k s → c ++ drop k d ≡ copied_over s d
+copied_count s d c k e h =
+    let front = ap (λ (l : List ℕ). l ++ drop k d) h in
+    by-test (ltb k (length s))
+    (λ t. copied_full s d (c ++ drop k d) k front (omega arith) (let p : k < length s = ltb-true _ _ t in omega arith) (ltb-true _ _ t))
+    (λ t. copied_end s d (c ++ drop k d) k front (omega arith) (ltb-false _ _ t) (omega arith))
 
 -- Slices of one length: a copy.
 pub copied_same : (s d : List ℕ) → length d ≡ length s → copied_over s d ≡ s

@@ -26,7 +26,7 @@ use Rattle.matchday_text.specs.Text.{followed, decimal, line, edge_line, edge_li
 use Rattle.matchday_text.proofs.PutLaws.{decimal_length, put_front_lem}
 use Rattle.lists.specs.Parts.{copied_over}
 use Rattle.lists.specs.Search.{all_below}
-use Rattle.graph.specs.Report.{number, report_of_coloring}
+use Rattle.graph.specs.Report.{number, report_of}
 use Rattle.graph.specs.Table.{over}
 use Rattle.graph.specs.declared.Refusal.{Refusal}
 use Rattle.file_layout.specs.Fields.{fields, fields_up_to}
@@ -40,8 +40,7 @@ use Rattle.graph_file.specs.declared.FileAnswer.{FileAnswer}
 use Rattle.graph_file.specs.declared.FileAnswer.TheVariants as F
 use Rattle.matchday_text.specs.Put.{Put, Room}
 use Rattle.lists.proofs.PartsLaws.{take_replicate}
-use Rattle.graph.specs.declared.Coloring.{Coloring}
-use Rattle.graph.specs.declared.Coloring.TheVariants as O
+use Rattle.std.specs.Prelude.{Result, Ok, Err}
 use Rattle.vizing.specs.Clause.{VizingColoring}
 use Rattle.vizing.specs.Demand3Examples.{list_p13}
 use Rattle.vizing.proofs.ClauseLaws.{p13_admitted, p13_colors, runs}
@@ -262,11 +261,11 @@ module _ (bytes ends₀ colors₀ : List ℕ) (c : FileAnswer) (ends colors : Li
 
 -- ---- the answers of a call
 
-refused_answer : (ends : List ℕ) (o : Outcome) (c : Coloring) (r : Refusal) → report_of_coloring c ≡ o.report → c ≡ O.Refused r → outcome_text ends o ≡ refused_text (number r)
+refused_answer : (ends : List ℕ) (o : Outcome) (c : Result ℕ Refusal) (r : Refusal) → report_of c ≡ o.report → c ≡ Err r → outcome_text ends o ≡ refused_text (number r)
 unfolding outcome_text report_text
 refused_answer ends o c r e p = rw (sym e, p)
 
-accepted_answer : (ends : List ℕ) (o : Outcome) (c : Coloring) (days : ℕ) (colors : List ℕ) → report_of_coloring c ≡ o.report → c ≡ O.Accepted days → colors ≡ o.colors → outcome_text ends o ≡ days_text days ends colors
+accepted_answer : (ends : List ℕ) (o : Outcome) (c : Result ℕ Refusal) (days : ℕ) (colors : List ℕ) → report_of c ≡ o.report → c ≡ Ok days → colors ≡ o.colors → outcome_text ends o ≡ days_text days ends colors
 unfolding outcome_text report_text
 accepted_answer ends o c days colors e p q = rw (sym e, p, q)
 
@@ -281,7 +280,7 @@ module _ (n : ℕ) (ends lent : List ℕ) where
   room : (text : List ℕ) → whole ≡ text → Room 0 text
   room text e = record { below = let b = rw e at (outcome_bound n ends lent) in omega (arith, b) }
 
-  module _ (c : Coloring) (r : Refusal) (x : ℕ) (e : report_of_coloring c ≡ (misra_gries n ends lent).report) (p : c ≡ O.Refused r) (q : x ≡ number r) where
+  module _ (c : Result ℕ Refusal) (r : Refusal) (x : ℕ) (e : report_of c ≡ (misra_gries n ends lent).report) (p : c ≡ Err r) (q : x ≡ number r) where
     refused_whole : whole ≡ refused_text x
     refused_whole = rw q (refused_answer ends (misra_gries n ends lent) c r e p)
 
@@ -291,12 +290,12 @@ module _ (n : ℕ) (ends lent : List ℕ) where
     pub refused_text_lem : (before after : List ℕ) (end : ℕ) → Put before 0 (refused_text x) after end → (end ≡ length whole) × (after ≡ copied_over whole before)
     refused_text_lem before after end put = done (refused_text x) before after end refused_whole put
 
-  module _ (c : Coloring) (days : ℕ) (colors : List ℕ) (e : report_of_coloring c ≡ (misra_gries n ends lent).report) (p : c ≡ O.Accepted days) (q : colors ≡ (misra_gries n ends lent).colors) where
+  module _ (c : Result ℕ Refusal) (days : ℕ) (colors : List ℕ) (e : report_of c ≡ (misra_gries n ends lent).report) (p : c ≡ Ok days) (q : colors ≡ (misra_gries n ends lent).colors) where
     accepted_whole : whole ≡ days_text days ends colors
     accepted_whole = accepted_answer ends (misra_gries n ends lent) c days colors e p q
 
-    pub accepted_room : VizingColoring n ends lent (report_of_coloring c) colors → (edge_count ends ≤ 65535) × Room 0 (days_text days ends colors)
-    accepted_room coloring = (omega (arith, (coloring.admits days (ap report_of_coloring p)).0.edges), room (days_text days ends colors) accepted_whole)
+    pub accepted_room : VizingColoring n ends lent (report_of c) colors → (edge_count ends ≤ 65535) × Room 0 (days_text days ends colors)
+    accepted_room coloring = (omega (arith, (coloring.admits days (ap report_of p)).0.edges), room (days_text days ends colors) accepted_whole)
 
     pub accepted_text : (before after : List ℕ) (end : ℕ) → Put before 0 (days_text days ends colors) after end → (end ≡ length whole) × (after ≡ copied_over whole before)
     accepted_text before after end put = done (days_text days ends colors) before after end accepted_whole put

@@ -6,7 +6,7 @@ ghost use Rattle.lists.specs.Parts.{copied_over};
 ghost use Rattle.vizing.specs.MisraGries.{misra_gries};
 ghost use Rattle.matchday_text.specs.Text.{outcome_text, colored_text, file_text, PassesOver};
 
-use graph::{Color, Coloring, Graph};
+use graph::{Color, Graph};
 use graph_file::{FileAnswer, read_graph_file};
 use lines::{put_days, put_refused};
 use misra_gries::misra_gries_edge_color;
@@ -22,8 +22,8 @@ fn outcome_text(n: usize, ends: &[u16], colors: &mut [u16], text: &mut [u8]) -> 
         text.new ≡ copied_over (outcome_text ends (misra_gries n ends colors)) text₀ }
 {
     match misra_gries_edge_color(n, ends, colors) {
-        Coloring::Refused(refusal) => put_refused(text, refusal.number() as usize),
-        Coloring::Accepted { days } => put_days(text, days, ends, colors),
+        Err(refusal) => put_refused(text, refusal.number() as usize),
+        Ok(days) => put_days(text, days, ends, colors),
     }
 }
 

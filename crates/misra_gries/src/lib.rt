@@ -2,7 +2,7 @@
 #![tactic(auto)]
 
 ghost use Rattle.std.specs.Prelude.{◌≡◌, ◌≤◌, length};
-ghost use Rattle.graph.specs.Report.{report_of_coloring};
+ghost use Rattle.graph.specs.Report.{report_of};
 ghost use Rattle.graph.specs.Edges.{edge_count};
 ghost use Rattle.graph.specs.Stretch.{Table};
 ghost use Rattle.vizing.specs.MisraGries.{misra_gries};
@@ -12,7 +12,7 @@ ghost use Rattle.vizing.specs.AddEdge.{add_edge, EdgeAdded};
 ghost use Rattle.misra_gries.specs.Step.{from_stored};
 
 use edge_table::{EdgeTable, Entry};
-use graph::{Checked, Color, Coloring, Graph, Refusal, copy_colors};
+use graph::{Color, Graph, Refusal, copy_colors};
 use run::{days_after, run};
 use simple_graph::check_simple;
 use stored_colors::{color_stored, max_degree, sizes_fit};
@@ -32,19 +32,19 @@ fn color_from(
     entries: &[u16],
     stored: &[u16],
     colors: &mut [u16],
-) -> Coloring
+) -> Result<usize, Refusal>
     requires admitted { Admitted n ends.now }
     requires table { Table ends.now n starts.now entries.now }
     requires stored_len_bound { length stored.now ≤ edge_count ends.now }
     requires colors_len { length colors.old ≡ edge_count ends.now }
-    ensures report { report_of_coloring result ≡ (from_stored n ends.now stored.now colors.old).report }
+    ensures report { report_of result ≡ (from_stored n ends.now stored.now colors.old).report }
     ensures colors { colors.new ≡ (from_stored n ends.now stored.now colors.old).colors }
 {
     let mut work = [Color::NONE; Graph::MAX_EDGES];
     let mut table = [Entry::NONE; EdgeTable::PLACES];
     let limit = max_degree(n as u16, starts, entries);
     if !color_stored(ends, stored, limit, &mut work, &mut table) {
-        return Coloring::Refused(Refusal::BadStoredColors);
+        return Err(Refusal::BadStoredColors);
     }
     let mut marks = [0u16; Graph::MAX_EDGES];
     let tally = run(
@@ -61,37 +61,42 @@ fn color_from(
     let edges = ends.len() / 2;
     copy_colors(&work[..edges], colors);
     let days = days_after(tally, stored.len(), colors);
-    Coloring::Accepted { days }
+    Ok(days)
 }
 
 // Each edge gets a colour, by Misra and Gries 1992. A wrong length is told after the graph checks and before loops and double edges.
-pub fn misra_gries_edge_color(n: usize, ends: &[u16], colors: &mut [u16]) -> Coloring
-    ensures report { report_of_coloring result ≡ (misra_gries n ends.now colors.old).report }
+pub fn misra_gries_edge_color(n: usize, ends: &[u16], colors: &mut [u16]) -> Result<usize, Refusal>
+    ensures report { report_of result ≡ (misra_gries n ends.now colors.old).report }
     ensures colors { colors.new ≡ (misra_gries n ends.now colors.old).colors }
-    ensures vizing { VizingColoring n ends.now colors.old (report_of_coloring result) colors.new }
+    ensures vizing { VizingColoring n ends.now colors.old (report_of result) colors.new }
 {
     let mut starts = [0u16; Graph::STARTS];
     let mut entries = [0u16; Graph::ENTRIES];
     let sized = colors.len() == ends.len() / 2;
     match check_simple(n, ends, sized, &mut starts, &mut entries) {
-        Checked::Refused(refusal) => Coloring::Refused(refusal),
+        Err(refusal) => Err(refusal),
         // Nothing is stored: an empty part of a slice at hand.
-        Checked::Accepted(graph) => color_from(n, ends, &starts, &entries, &ends[..0], colors),
+        Ok(graph) => color_from(n, ends, &starts, &entries, &ends[..0], colors),
     }
 }
 
 // The last edge gets a colour too, by the step that it has in the run over all edges, from the stored colours of the others. The step may
 // change those, as it does in the run.
-pub fn misra_gries_add_edge(n: usize, ends: &[u16], stored: &[u16], colors: &mut [u16]) -> Coloring
-    ensures report { report_of_coloring result ≡ (add_edge n ends.now stored.now colors.old).report }
+pub fn misra_gries_add_edge(
+    n: usize,
+    ends: &[u16],
+    stored: &[u16],
+    colors: &mut [u16],
+) -> Result<usize, Refusal>
+    ensures report { report_of result ≡ (add_edge n ends.now stored.now colors.old).report }
     ensures colors { colors.new ≡ (add_edge n ends.now stored.now colors.old).colors }
-    ensures added { EdgeAdded n ends.now stored.now colors.old (report_of_coloring result) colors.new }
+    ensures added { EdgeAdded n ends.now stored.now colors.old (report_of result) colors.new }
 {
     let mut starts = [0u16; Graph::STARTS];
     let mut entries = [0u16; Graph::ENTRIES];
     let sized = sizes_fit(ends.len() / 2, stored.len(), colors.len());
     match check_simple(n, ends, sized, &mut starts, &mut entries) {
-        Checked::Refused(refusal) => Coloring::Refused(refusal),
-        Checked::Accepted(graph) => color_from(n, ends, &starts, &entries, stored, colors),
+        Err(refusal) => Err(refusal),
+        Ok(graph) => color_from(n, ends, &starts, &entries, stored, colors),
     }
 }

@@ -1,6 +1,7 @@
 // The greedy colourings, Misra-Gries and the match days: each lends so much of its slices as its line says, calls, and prints the
 // answer. The other calls are in replay_calls.
-use graph::Coloring;
+
+use graph::Refusal;
 use greedy::ColoringStrategy;
 use greedy_color::{
     greedy_edge_color, greedy_edge_color_with_coloring_strategy, greedy_node_color,
@@ -52,7 +53,13 @@ fn put_name(rt: &impl Print, text: &mut [u8], waiting: usize, name: Name) -> usi
 
 // The line's colouring, by the strategy that its first number names where it has one. A late match's stored colours are those of the
 // presets line.
-fn color(n: usize, ends: &[u16], presets: &[u16], line: Line, colors: &mut [u16]) -> Coloring {
+fn color(
+    n: usize,
+    ends: &[u16],
+    presets: &[u16],
+    line: Line,
+    colors: &mut [u16],
+) -> Result<usize, Refusal> {
     let strategy = strategy_of(line.first);
     let name = line.name;
     match name {

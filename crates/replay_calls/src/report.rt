@@ -1,11 +1,10 @@
 // The answers of the calls as they are printed.
 use days::LeadingPart;
 use edge_walk::{WalkStep, edge_at};
-use graph::{Coloring, IncidenceAnswer, NodeIndex, Refusal};
+use graph::{NodeIndex, Refusal};
 use graph_file::FileAnswer;
-use line_graph::LineList;
+
 use replay_output::{put, put_all, put_list, put_number, put_report};
-use write_graph_file::WriteAnswer;
 
 fn put_refused(
     rt: &impl Print,
@@ -22,11 +21,11 @@ pub(crate) fn put_coloring(
     text: &mut [u8],
     waiting: usize,
     name: &[u8],
-    answer: Coloring,
+    answer: Result<usize, Refusal>,
 ) -> usize {
     match answer {
-        Coloring::Accepted { days } => put_report(rt, text, waiting, name, b"days", days as u64),
-        Coloring::Refused(refusal) => put_refused(rt, text, waiting, name, refusal),
+        Ok(days) => put_report(rt, text, waiting, name, b"days", days as u64),
+        Err(refusal) => put_refused(rt, text, waiting, name, refusal),
     }
 }
 
@@ -36,7 +35,7 @@ pub fn put_colored(
     text: &mut [u8],
     waiting: usize,
     name: &[u8],
-    answer: Coloring,
+    answer: Result<usize, Refusal>,
     colors: &[u16],
 ) -> usize {
     let end = put_coloring(rt, text, waiting, name, answer);
@@ -48,18 +47,11 @@ pub(crate) fn put_line_list(
     rt: &impl Print,
     text: &mut [u8],
     waiting: usize,
-    answer: LineList,
+    answer: Result<usize, Refusal>,
 ) -> usize {
     match answer {
-        LineList::Accepted { pairs } => put_report(
-            rt,
-            text,
-            waiting,
-            b"line_graph",
-            b"pairs",
-            pairs as u64,
-        ),
-        LineList::Refused(refusal) => put_refused(rt, text, waiting, b"line_graph", refusal),
+        Ok(pairs) => put_report(rt, text, waiting, b"line_graph", b"pairs", pairs as u64),
+        Err(refusal) => put_refused(rt, text, waiting, b"line_graph", refusal),
     }
 }
 
@@ -67,18 +59,11 @@ pub(crate) fn put_incidence(
     rt: &impl Print,
     text: &mut [u8],
     waiting: usize,
-    answer: IncidenceAnswer,
+    answer: Result<usize, Refusal>,
 ) -> usize {
     match answer {
-        IncidenceAnswer::Accepted { total } => put_report(
-            rt,
-            text,
-            waiting,
-            b"incidence",
-            b"total",
-            total as u64,
-        ),
-        IncidenceAnswer::Refused(refusal) => put_refused(rt, text, waiting, b"incidence", refusal),
+        Ok(total) => put_report(rt, text, waiting, b"incidence", b"total", total as u64),
+        Err(refusal) => put_refused(rt, text, waiting, b"incidence", refusal),
     }
 }
 
@@ -170,10 +155,10 @@ pub(crate) fn put_written(
     rt: &impl Print,
     text: &mut [u8],
     waiting: usize,
-    answer: WriteAnswer,
+    answer: Result<usize, Refusal>,
 ) -> usize {
     match answer {
-        WriteAnswer::Accepted { length } => put_report(
+        Ok(length) => put_report(
             rt,
             text,
             waiting,
@@ -181,12 +166,6 @@ pub(crate) fn put_written(
             b"length",
             length as u64,
         ),
-        WriteAnswer::Refused(refusal) => put_refused(
-            rt,
-            text,
-            waiting,
-            b"write_graph_file",
-            refusal,
-        ),
+        Err(refusal) => put_refused(rt, text, waiting, b"write_graph_file", refusal),
     }
 }

@@ -2,14 +2,14 @@
 #![tactic(auto)]
 
 ghost use Rattle.std.specs.Prelude.{◌≡◌, length};
-ghost use Rattle.graph.specs.Report.{report_of_coloring};
+ghost use Rattle.graph.specs.Report.{report_of};
 ghost use Rattle.graph.specs.Check.{Passed};
 ghost use Rattle.graph.specs.Color.{days_of};
 ghost use Rattle.greedy.specs.Saturation.{saturation_colors};
 ghost use Rattle.items.specs.Items.{items_of, neighbors_of, greedy_of};
 
 use days::days_of;
-use graph::{Checked, Coloring, Graph};
+use graph::{Graph, Refusal};
 use incidence::incidence_front;
 use items::{Kind, check_items};
 use turns::run;
@@ -46,19 +46,25 @@ fn color_checked(kind: Kind, n: usize, ends: &[u16], presets: &[u16], colors: &m
 
 // Presets are set first; then the item with the most different colours on its neighbours is next, among these the one with the most
 // uncoloured neighbours, among these the lowest. It takes the smallest colour that no neighbour has.
-pub fn color(kind: Kind, n: usize, ends: &[u16], presets: &[u16], colors: &mut [u16]) -> Coloring
+pub fn color(
+    kind: Kind,
+    n: usize,
+    ends: &[u16],
+    presets: &[u16],
+    colors: &mut [u16],
+) -> Result<usize, Refusal>
     ensures report { let ends = ends.entry.now in let presets = presets.entry.now in let colors = colors.entry.now in
-        report_of_coloring result ≡ (greedy_of kind saturation_colors n ends presets colors).report }
+        report_of result ≡ (greedy_of kind saturation_colors n ends presets colors).report }
     ensures colors { let ends = ends.entry.now in let presets = presets.entry.now in let colors₀ = colors.old in
         colors.new ≡ (greedy_of kind saturation_colors n ends presets colors₀).colors }
 {
     match check_items(kind, n, ends, presets.len(), colors.len()) {
-        Checked::Refused(refusal) => {
-            return Coloring::Refused(refusal);
+        Err(refusal) => {
+            return Err(refusal);
         }
-        Checked::Accepted(_graph) => {
+        Ok(_graph) => {
             let days = color_checked(kind, n, ends, presets, colors);
-            Coloring::Accepted { days }
+            Ok(days)
         }
     }
 }

@@ -19,8 +19,7 @@ use Rattle.graph.specs.Check.{Check, ◌gives◌, first_refusal, graph_checks, c
 use Rattle.graph.proofs.CheckLaws.{passed, refused_first, passed_first, passed_both, passed_one, first_refuses, first_passes, all_passed, answered_refused, answered_accepted, checked_refused, checked_accepted, graph_refused, graph_accepted}
 use Rattle.graph.specs.declared.Refusal.{Refusal}
 use Rattle.graph.specs.declared.Graph.{Graph}
-use Rattle.graph.specs.declared.Checked.{Checked}
-use Rattle.graph.specs.declared.Checked.TheVariants as C
+use Rattle.std.specs.Prelude.{Result, Ok, Err}
 use Rattle.vizing.specs.Demand3.{Admitted}
 use Rattle.vizing.proofs.Theorem.{simple_admitted}
 use Rattle.simple_graph.specs.Simple.{check_simple}
@@ -66,10 +65,10 @@ module _ (n : ℕ) (ends : List ℕ) (sized : Bool) (starts entries : List ℕ) 
   unfolding check_simple
   refuses k e = answered_refused (graph_checks n ends ++ after_graph) k _ e
 
-  pub graph_no : (c : Checked) (r : Refusal) → report_of_checked c ≡ check_graph n ends → c ≡ C.Refused r → refused (number r) ≡ check_simple n ends sized starts entries
+  pub graph_no : (c : Result Graph Refusal) (r : Refusal) → report_of_checked c ≡ check_graph n ends → c ≡ Err r → refused (number r) ≡ check_simple n ends sized starts entries
   graph_no c r e p = refuses (number r) (refused_first (graph_checks n ends) after_graph (number r) (graph_refused n ends c r e p))
 
-  module _ (c : Checked) (g : Graph) (e : report_of_checked c ≡ check_graph n ends) (p : c ≡ C.Accepted g) where
+  module _ (c : Result Graph Refusal) (g : Graph) (e : report_of_checked c ≡ check_graph n ends) (p : c ≡ Ok g) where
     after : (o : Option ℕ) → first_refusal after_graph ≡ o → first_refusal (graph_checks n ends ++ after_graph) ≡ o
     after o q = passed_first (graph_checks n ends) after_graph (graph_accepted n ends c g e p).0 ∙ q
 
@@ -109,18 +108,18 @@ module _ (n : ℕ) (ends : List ℕ) (sized : Bool) (starts entries : List ℕ) 
 
   -- ---- what the answer tells, where both slices have room for every table
 
-  module _ (c : Checked) (e : report_of_checked c ≡ check_simple n ends sized starts entries) (rows : 512 < length starts) (room : 8192 ≤ length entries) where
+  module _ (c : Result Graph Refusal) (e : report_of_checked c ≡ check_simple n ends sized starts entries) (rows : 512 < length starts) (room : 8192 ≤ length entries) where
     roomy : first_refusal (graph_checks n ends ++ after_graph) ≡ first_refusal (graph_checks n ends ++ (not sized gives 5) ∷ simple_checks ends)
     roomy =
         left_out (leb (length starts) n) 5 (graph_checks n ends) _ (λ q. lt-leb (length starts) n (omega (arith, (passed n ends q).nodes)))
         ∙ left_out (ltb (length entries) (length ends)) 5 (graph_checks n ends) _ (λ q. le-ltb (length entries) (length ends) (omega (arith, (passed n ends q).even, (passed n ends q).edges)))
 
-    pub simple_refused : (r : Refusal) → c ≡ C.Refused r → first_refusal (graph_checks n ends ++ (not sized gives 5) ∷ simple_checks ends) ≡ some (number r)
+    pub simple_refused : (r : Refusal) → c ≡ Err r → first_refusal (graph_checks n ends ++ (not sized gives 5) ∷ simple_checks ends) ≡ some (number r)
     unfolding check_simple
     simple_refused r p = sym roomy ∙ checked_refused (graph_checks n ends ++ after_graph) (n, edge_count ends) c r e p
 
     -- No check refuses: what the tests of the caller's slices and of the list leave.
-    pub simple_accepted : (g : Graph) → c ≡ C.Accepted g → Passed n ends × Admitted n ends × (sized ≡ true)
+    pub simple_accepted : (g : Graph) → c ≡ Ok g → Passed n ends × Admitted n ends × (sized ≡ true)
     unfolding check_simple
     simple_accepted g p =
         let none-refuses = sym roomy ∙ (checked_accepted (graph_checks n ends ++ after_graph) (n, edge_count ends) c g e p).0 in

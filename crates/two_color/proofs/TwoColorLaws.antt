@@ -20,8 +20,7 @@ use Rattle.graph.specs.Edges.{edge_count, first_end, second_end}
 use Rattle.graph.specs.Color.{colored, days_of}
 use Rattle.graph.specs.declared.Refusal.{Refusal}
 use Rattle.graph.specs.declared.Graph.{Graph}
-use Rattle.graph.specs.declared.Checked.{Checked}
-use Rattle.graph.specs.declared.Checked.TheVariants as C
+use Rattle.std.specs.Prelude.{Result, Ok, Err}
 use Rattle.two_color.specs.Walk.{OddClosedWalk, Walk, is_odd}
 use Rattle.two_color.specs.Sides.{odd_cycle, odd_side, side_color, sides, lowest}
 use Rattle.two_color.proofs.SideLaws.{odd_cycle_walk, walk_odd_cycle, side_color_bound, color_second, length_sides, sides_at, lowest_node_one, lowest_le, lowest_same, lowest_walk, proper_walk}
@@ -125,11 +124,11 @@ module _ (n : ℕ) (ends lent : List ℕ) where
 
   -- ---- one law for each answer
 
-  pub graph_no : (c : Checked) (r : Refusal) → report_of_checked c ≡ check_graph n ends → c ≡ C.Refused r → (refused (number r) ≡ (two_color n ends lent).report) × (lent ≡ (two_color n ends lent).colors)
+  pub graph_no : (c : Result Graph Refusal) (r : Refusal) → report_of_checked c ≡ check_graph n ends → c ≡ Err r → (refused (number r) ≡ (two_color n ends lent).report) × (lent ≡ (two_color n ends lent).colors)
   unfolding input_checks
   graph_no c r e p = before_eight (number r) (refused_first (graph_checks n ends) (length_check (length lent) n ∷ []) (number r) (graph_refused n ends c r e p))
 
-  module _ (c : Checked) (g : Graph) (e : report_of_checked c ≡ check_graph n ends) (p : c ≡ C.Accepted g) where
+  module _ (c : Result Graph Refusal) (g : Graph) (e : report_of_checked c ≡ check_graph n ends) (p : c ≡ Ok g) where
     pub graph_yes : Passed n ends
     graph_yes = passed n ends (graph_accepted n ends c g e p).0
 

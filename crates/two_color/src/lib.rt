@@ -2,11 +2,11 @@
 #![tactic(auto)]
 
 ghost use Rattle.std.specs.Prelude.{◌≡◌, ℕ, ◌≤◌, ◌<◌, length, get_or};
-ghost use Rattle.graph.specs.Report.{report_of_coloring};
+ghost use Rattle.graph.specs.Report.{report_of};
 ghost use Rattle.graph.specs.Check.{Passed};
 ghost use Rattle.two_color.specs.TwoColor.{two_color, sides_outcome, side_days, Bipartition};
 
-use graph::{Checked, Coloring, Graph, Refusal, check_graph};
+use graph::{Graph, Refusal, check_graph};
 
 mod components;
 
@@ -36,11 +36,11 @@ fn days_of_sides(n: usize, m: usize) -> usize
 }
 
 // A graph that passed the checks, and a place for each node.
-fn color_checked(n: usize, ends: &[u16], colors: &mut [u8]) -> Coloring
+fn color_checked(n: usize, ends: &[u16], colors: &mut [u8]) -> Result<usize, Refusal>
     requires passed { Passed n ends.now }
     requires colors_len { length colors.old ≡ n }
     ensures report { let ends = ends.entry.now in let colors = colors.entry.now in
-        report_of_coloring result ≡ (sides_outcome n ends colors).report }
+        report_of result ≡ (sides_outcome n ends colors).report }
     ensures colors { let ends = ends.entry.now in let colors₀ = colors.old in
         colors.new ≡ (sides_outcome n ends colors₀).colors }
 {
@@ -50,28 +50,28 @@ fn color_checked(n: usize, ends: &[u16], colors: &mut [u8]) -> Coloring
     if components::color_nodes(n, ends, &mut up, &mut flips, &mut sides) {
         copy_out(&sides[..n], colors);
         let days = days_of_sides(n, ends.len() / 2);
-        Coloring::Accepted { days }
+        Ok(days)
     } else {
-        Coloring::Refused(Refusal::OddClosedWalk)
+        Err(Refusal::OddClosedWalk)
     }
 }
 
 // The lowest node of each component gets 1, neighbours get the other of 0 and 1.
-pub fn two_color(n: usize, ends: &[u16], colors: &mut [u8]) -> Coloring
+pub fn two_color(n: usize, ends: &[u16], colors: &mut [u8]) -> Result<usize, Refusal>
     ensures report { let ends = ends.entry.now in let colors = colors.entry.now in
-        report_of_coloring result ≡ (two_color n ends colors).report }
+        report_of result ≡ (two_color n ends colors).report }
     ensures colors { let ends = ends.entry.now in let colors₀ = colors.old in
         colors.new ≡ (two_color n ends colors₀).colors }
     ensures bipartition { let ends = ends.entry.now in let colors₀ = colors.old in
-        Bipartition n ends colors₀ (report_of_coloring result) colors.new }
+        Bipartition n ends colors₀ (report_of result) colors.new }
 {
     match check_graph(n, ends) {
-        Checked::Refused(refusal) => {
-            return Coloring::Refused(refusal);
+        Err(refusal) => {
+            return Err(refusal);
         }
-        Checked::Accepted(graph) => {
+        Ok(graph) => {
             if colors.len() != graph.nodes {
-                return Coloring::Refused(Refusal::WrongLength);
+                return Err(Refusal::WrongLength);
             }
             color_checked(n, ends, colors)
         }

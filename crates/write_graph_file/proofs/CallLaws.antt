@@ -19,8 +19,7 @@ use Rattle.graph.specs.Edges.{edge_count}
 use Rattle.graph.specs.Table.{over}
 use Rattle.graph.specs.declared.Refusal.{Refusal}
 use Rattle.graph.specs.declared.Graph.{Graph}
-use Rattle.graph.specs.declared.Checked.{Checked}
-use Rattle.graph.specs.declared.Checked.TheVariants as C
+use Rattle.std.specs.Prelude.{Result, Ok, Err}
 use Rattle.file_layout.specs.Fields.{bytes16, bytes_of, Field, field_bytes, fields_bytes}
 use Rattle.file_layout.specs.File.{has_tag, other_fields, file_fields, file_bytes}
 use Rattle.file_layout.specs.Outcomes.{told_file, WriteOutcome, write_file}
@@ -55,11 +54,11 @@ module _ (n : ℕ) (ends colors : List ℕ) (tags method : ℕ) (output₀ : Lis
       let q = ap (λ (o : WriteOutcome). o.output) (sym e) in
       (p, (q, file_writer n ends colors tags method output₀ b report output p q))
 
-  module _ (c : Checked) (e : report_of_checked c ≡ check_graph n ends) where
-    pub answer_graph : (r : Refusal) → c ≡ C.Refused r → Promised (refused (number r)) output₀
+  module _ (c : Result Graph Refusal) (e : report_of_checked c ≡ check_graph n ends) where
+    pub answer_graph : (r : Refusal) → c ≡ Err r → Promised (refused (number r)) output₀
     answer_graph r q = promised _ _ (refused_graph n ends colors tags method output₀ (number r) (graph_refused n ends c r e q))
 
-    module _ (g : Graph) (q : c ≡ C.Accepted g) where
+    module _ (g : Graph) (q : c ≡ Ok g) where
       passed_graph : first_refusal (graph_checks n ends) ≡ none
       passed_graph = (graph_accepted n ends c g e q).0
 

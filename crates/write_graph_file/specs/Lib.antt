@@ -1,2 +1,1 @@
 -- How writing a file answers.
-pub mod Report

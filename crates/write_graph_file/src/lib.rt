@@ -4,19 +4,12 @@
 ghost use Rattle.std.specs.Prelude.{◌≡◌};
 ghost use Rattle.file_layout.specs.Outcomes.{write_file};
 ghost use Rattle.file_layout.specs.Reliance.{FileWriter};
-ghost use Rattle.write_graph_file.specs.Report.{report_of_writing};
+ghost use Rattle.graph.specs.Report.{report_of};
 
-use graph::{Checked, Refusal, check_graph};
+use graph::{Refusal, check_graph};
 
 mod put;
 mod told;
-
-// The answer of writing a file: how many bytes it has.
-#[derive(Clone, Copy)]
-pub enum WriteAnswer {
-    Accepted { length: usize },
-    Refused(Refusal),
-}
 
 // Bit 2 of `tags` tells to put tag 3, the colours, bit 3 to put tag 4, the method; the other bits are not looked at,
 // and neither are colours or a method that are not told.
@@ -27,33 +20,33 @@ pub fn write_graph_file(
     tags: u8,
     method: u8,
     output: &mut [u8],
-) -> WriteAnswer
+) -> Result<usize, Refusal>
     ensures report { let ends = ends.entry.now in let colors = colors.entry.now in let output₀ = output.old in
-        report_of_writing result ≡ (write_file n ends colors tags method output₀).report }
+        report_of result ≡ (write_file n ends colors tags method output₀).report }
     ensures output { let ends = ends.entry.now in let colors = colors.entry.now in let output₀ = output.old in
         output.new ≡ (write_file n ends colors tags method output₀).output }
     ensures layout { let ends = ends.entry.now in let colors = colors.entry.now in let output₀ = output.old in
-        FileWriter n ends colors tags method output₀ (report_of_writing result) output.new }
+        FileWriter n ends colors tags method output₀ (report_of result) output.new }
 {
     match check_graph(n, ends) {
-        Checked::Refused(refusal) => {
-            return WriteAnswer::Refused(refusal);
+        Err(refusal) => {
+            return Err(refusal);
         }
-        Checked::Accepted(graph) => {
+        Ok(graph) => {
             let edges = graph.edges;
             if told::misnamed(tags, method) {
-                return WriteAnswer::Refused(Refusal::BadFile);
+                return Err(Refusal::BadFile);
             }
             if told::wrong_colors(tags, colors.len(), edges) {
-                return WriteAnswer::Refused(Refusal::WrongLength);
+                return Err(Refusal::WrongLength);
             }
             let length = told::file_length(tags, edges);
             if output.len() < length {
-                return WriteAnswer::Refused(Refusal::WrongLength);
+                return Err(Refusal::WrongLength);
             }
             put::put_graph(output, n, ends);
             put::put_told(output, 8 + 4 * edges, colors, tags, method);
-            WriteAnswer::Accepted { length }
+            Ok(length)
         }
     }
 }

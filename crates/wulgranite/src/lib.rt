@@ -8,11 +8,9 @@
 #![tactic(auto)]
 
 pub use days::fewer_days;
-pub use edge_walk::{EdgeWalk, WalkStep, edge_at, edges_at, far_end};
+pub use edge_walk::{EdgeWalk, edge_at, edges_at, far_end};
 pub use file_fields::Method;
-pub use graph::{
-    Checked, Color, Coloring, EdgeIndex, Graph, IncidenceAnswer, NodeIndex, Refusal, check_graph,
-};
+pub use graph::{Color, EdgeIndex, Graph, NodeIndex, Refusal, check_graph};
 pub use graph_file::{FileAnswer, read_graph_file};
 pub use greedy::ColoringStrategy;
 pub use greedy_color::{
@@ -20,7 +18,7 @@ pub use greedy_color::{
     greedy_node_color_with_coloring_strategy, greedy_node_color_with_preset_colors,
 };
 pub use incidence::incidence;
-pub use line_graph::{LineList, edge_of_node, line_graph, node_of_edge};
+pub use line_graph::{edge_of_node, line_graph, node_of_edge};
 pub use misra_gries::{misra_gries_add_edge, misra_gries_edge_color};
 pub use two_color::two_color;
-pub use write_graph_file::{WriteAnswer, write_graph_file};
+pub use write_graph_file::write_graph_file;

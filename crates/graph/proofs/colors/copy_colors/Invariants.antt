@@ -1,9 +1,0 @@
--- The invariant: the colours passed are copied.
-use Rattle.std.proofs.Common.{◌≡◌, length, take, drop, ◌++◌, ◌≤◌, ◌-◌}
-use Rattle.graph.proofs.colors.copy_colors.Given as goal
-
-abbrev pub invariant-loop-i : goal.invariant-loop-i
-invariant-loop-i l = (l.i ≤ length l.from) × (l.i ≤ length l.initial.to) × (length l.to ≡ length l.initial.to) × (l.to ≡ take l.i l.from ++ drop l.i l.initial.to)
-
-abbrev pub decreases-loop-i : goal.decreases-loop-i
-decreases-loop-i l = length l.from - l.i
