@@ -107,10 +107,6 @@ pub fn line_graph(n: usize, ends: &[u16], list: &mut [u16]) -> Result<usize, Ref
     ensures report { let ends = ends.entry.now in let list = list.entry.now in report_of result ≡ (line_graph n ends list).report }
     ensures list { let ends = ends.entry.now in let list₀ = list.old in list.new ≡ (line_graph n ends list₀).list }
 {
-    match check_graph(n, ends) {
-        Err(refusal) => {
-            return Err(refusal);
-        }
-        Ok(_) => list_pairs(n, ends, list),
-    }
+    check_graph(n, ends)?;
+    list_pairs(n, ends, list)
 }
