@@ -1,9 +1,9 @@
 -- The edge table, and the new colours of an exchanged path and of a rotated fan.
-use Rattle.std.specs.Prelude.{ℕ, zero, suc, ◌+◌, ◌*◌, List, [], ◌∷◌, ◌++◌, map, Bool, true, false, cond, get_or, eqb, ltb}
+use Rattle.std.specs.Prelude.{ℕ, zero, suc, ◌+◌, ◌*◌, List, [], ◌∷◌, ◌++◌, map, Some, None, Bool, true, false, cond, get_or, eqb, ltb}
 use Rattle.std.proofs.Math.Option.{Option, none, some}
 use Rattle.vizing.specs.MisraGries.{is_none, swap}
-use Rattle.edge_table.specs.declared.EdgeOfColor.{EdgeOfColor}
-use Rattle.edge_table.specs.declared.EdgeOfColor.TheVariants.{Edge, Nothing}
+use Rattle.std.specs.Prelude as Prelude
+use Rattle.graph.specs.declared.EdgeIndex.{EdgeIndex}
 use Rattle.graph.specs.Colored.{color_of}
 
 -- The edge table as a list: what stands at its places, and what each function answers. There is a row for each of 576 colours, and in it a place for each of 512 nodes: colour c's place for node v is c * 512 + v.
@@ -18,9 +18,9 @@ unfoldable pub edge_of_entry : ℕ → Option ℕ
 edge_of_entry x = cond (eqb x no_edge) none (some x)
 
 -- The answer of `edge_of_color`.
-abbrev pub option_of : EdgeOfColor → Option ℕ
-option_of (Edge k) = some k.0
-option_of Nothing = none
+abbrev pub option_of : Prelude.Option EdgeIndex → Option ℕ
+option_of (Some k) = some k.0
+option_of None = none
 
 -- ---- what the table answers
 

@@ -2,8 +2,6 @@
 // outside a slice reads as its default.
 #![tactic(auto)]
 
-use graph::EdgeIndex;
-
 mod lookup;
 
 pub use lookup::{color_of, edge_of_color, is_free, smallest_free};
@@ -19,13 +17,6 @@ impl EdgeTable {
     pub const COLORS: usize = 576;
 
     pub const PLACES: usize = Self::NODES * Self::COLORS;
-}
-
-// The edge of a colour at a node.
-#[derive(Clone, Copy)]
-pub enum EdgeOfColor {
-    Edge(EdgeIndex),
-    Nothing,
 }
 
 // What a place of the table holds: an edge's number, or none.

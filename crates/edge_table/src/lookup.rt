@@ -3,7 +3,7 @@ ghost use Rattle.std.specs.Prelude.{◌≡◌};
 ghost use Rattle.graph.specs.Colored.{color_of};
 ghost use Rattle.edge_table.specs.EdgeTable.{option_of, entry_at, table_edge, is_empty, smallest_empty};
 
-use crate::{EdgeOfColor, EdgeTable, Entry};
+use crate::{EdgeTable, Entry};
 use graph::{Color, EdgeIndex, NodeIndex};
 
 // A node without a place must not be read from the next row.
@@ -22,14 +22,14 @@ fn entry_at(table: &[u16], node: NodeIndex, color: Color) -> Entry
 }
 
 // The edge of this colour at the node.
-pub fn edge_of_color(table: &[u16], node: NodeIndex, color: Color) -> EdgeOfColor
+pub fn edge_of_color(table: &[u16], node: NodeIndex, color: Color) -> Option<EdgeIndex>
     ensures answer { option_of result ≡ table_edge table.now node.0 color.0 }
 {
     let entry = entry_at(table, node, color);
     if entry.0 == Entry::NONE {
-        EdgeOfColor::Nothing
+        None
     } else {
-        EdgeOfColor::Edge(EdgeIndex(entry.0))
+        Some(EdgeIndex(entry.0))
     }
 }
 
