@@ -16,7 +16,6 @@ pub enum ColoringStrategy {
 }
 
 // The checks, given how many items, presets and colours there are.
-#[tactic(auto, using(crate::proofs::CallLaws::presets_refused))]
 fn check_items(
     n: usize,
     ends: &[u16],
@@ -26,20 +25,14 @@ fn check_items(
 ) -> Result<Graph, Refusal>
     ensures report { report_of_checked result ≡ check_items n ends.now items presets colors }
 {
-    match check_graph(n, ends) {
-        Err(refusal) => {
-            return Err(refusal);
-        }
-        Ok(graph) => {
-            if colors != items {
-                return Err(Refusal::WrongLength);
-            }
-            if presets != items {
-                return Err(Refusal::WrongLength);
-            }
-            Ok(graph)
-        }
+    let graph = check_graph(n, ends)?;
+    if colors != items {
+        return Err(Refusal::WrongLength);
     }
+    if presets != items {
+        return Err(Refusal::WrongLength);
+    }
+    Ok(graph)
 }
 
 // The checks of node colouring, given how many presets and colours are lent.

@@ -1,13 +1,18 @@
 -- `check_items` meets its contract: each answer's tests say which check refuses, or that none does.
-use borrow.Author.Rules.{rules}
-use Rattle.greedy.proofs.CallLaws.{check_refuses, colors_wrong, checks_pass}
+use Rattle.std.proofs.lemmas.Result.{err_from_is_err_and}
+use Rattle.greedy.proofs.CallLaws.{check_refuses, colors_wrong, presets_wrong, checks_pass}
 use Rattle.greedy.proofs.check_items.Goals as goal
 
-pub returns-in-Refused : goal.returns-in-Refused
-returns-in-Refused c = record { report = check_refuses _ _ _ _ _ _ _ c.check_graph.ensures.report c.in-Refused.is }
+pub returns-in_err-graph : goal.returns-in_err-graph
+returns-in_err-graph c =
+    let p = err_from_is_err_and c.from_residual.result c.from_residual.ensures.1 in
+    record { report = rw (p.1, p.2) (check_refuses _ _ _ _ _ _ _ c.check_graph.ensures.report c.in_err-graph.was) }
 
 pub returns-then-colors-items : goal.returns-then-colors-items
-returns-then-colors-items c = record { report = colors_wrong _ _ _ _ _ _ _ c.check_graph.ensures.report c.in-Accepted.is c.if-colors-items.true }
+returns-then-colors-items c = record { report = colors_wrong _ _ _ _ _ _ _ c.check_graph.ensures.report c.in_ok-graph.was c.if-colors-items.true }
+
+pub returns-then-presets-items : goal.returns-then-presets-items
+returns-then-presets-items c = record { report = presets_wrong _ _ _ _ _ _ _ c.check_graph.ensures.report c.in_ok-graph.was c.if-colors-items.false c.if-presets-items.true }
 
 pub returns : goal.returns
-returns c = search (rules, checks_pass)
+returns c = record { report = checks_pass _ _ _ _ _ _ _ c.check_graph.ensures.report c.in_ok-graph.was c.if-colors-items.false c.if-presets-items.false }
