@@ -1,15 +1,7 @@
 -- The candidates of a fan as the code asks of them: by marks of the fan's edges, by the edge table, and from a place before which none may join.
 use Rattle.std.specs.Prelude.{ℕ, List, Bool, not, ◌&&◌, get_or, eqb}
-use Rattle.std.proofs.Math.Option.{Option, none, some}
 use Rattle.graph.specs.Colored.{color_of, is_colored}
 use Rattle.edge_table.specs.EdgeTable.{is_empty}
-use Rattle.fan.specs.declared.candidates.Joining.{Joining}
-use Rattle.fan.specs.declared.candidates.Joining.TheVariants.{Edge, Nothing}
-
--- The answer of `first_joining`.
-abbrev pub option_of : Joining → Option ℕ
-option_of (Edge k) = some k.0
-option_of Nothing = none
 
 -- Edge k does not have the mark s, and it is coloured in l.
 unfoldable pub may_join : List ℕ → List ℕ → ℕ → ℕ → Bool

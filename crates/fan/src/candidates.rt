@@ -1,17 +1,11 @@
 // The candidates of a fan (step 1). The edges in it are those whose mark is the stamp of this step.
 ghost use Rattle.std.specs.Prelude.{◌≡◌, ◌+◌, get_or, set, drop};
 ghost use Rattle.lists.specs.Search.{first_place, first_that};
-ghost use Rattle.fan.specs.Candidates.{option_of, may_join, joins_marked};
+ghost use Rattle.edge_table.specs.EdgeTable.{option_of};
+ghost use Rattle.fan.specs.Candidates.{may_join, joins_marked};
 
 use edge_table::{color_of, is_free};
 use graph::{Color, EdgeIndex, NodeIndex};
-
-// The candidate that joins next.
-#[derive(Clone, Copy)]
-pub enum Joining {
-    Edge(EdgeIndex),
-    Nothing,
-}
 
 // The stamp of the last step whose fan had the edge, 0 if none had.
 fn mark_of(marks: &[u16], edge: EdgeIndex) -> u16
@@ -75,18 +69,18 @@ pub fn first_joining(
     far: NodeIndex,
     near: &[u16],
     from: usize,
-) -> Joining
+) -> Option<EdgeIndex>
     ensures answer { option_of result ≡ first_that (joins_marked work.now table.now marks.now stamp far.0) (drop from near.now) }
 {
     let mut i = from;
     while i < near.len() {
         let edge = EdgeIndex(near[i]);
         if joins(work, table, marks, stamp, far, edge) {
-            return Joining::Edge(edge);
+            return Some(edge);
         }
         i += 1;
     }
-    Joining::Nothing
+    None
 }
 
 // The first place from this one on whose candidate is coloured and not in the fan yet, or the end; from beyond the end, the place itself.

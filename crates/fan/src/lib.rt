@@ -5,5 +5,5 @@
 mod candidates;
 mod places;
 
-pub use candidates::{Joining, first_joining, set_mark, skip};
+pub use candidates::{first_joining, set_mark, skip};
 pub use places::places_to;
