@@ -1,14 +1,14 @@
 -- The choice of the next item of Saturation, by the two counts of each item.
 use Rattle.std.specs.Prelude.{ℕ, zero, suc, max, List, Bool, not, ◌&&◌, ◌||◌, cond, length, get_or, eqb, ltb}
+use Rattle.std.specs.Prelude.{Some, None, Option as Answer}
 use Rattle.std.proofs.Math.Option.{Option, none, some}
+use Rattle.graph.specs.declared.NodeIndex.{NodeIndex}
 use Rattle.graph.specs.Colored.{is_colored}
-use Rattle.choice.specs.declared.Choice.{Choice}
-use Rattle.choice.specs.declared.Choice.TheVariants.{Next, Nothing}
 
 -- The answer of `choose`.
-abbrev pub option_of : Choice → Option ℕ
-option_of (Next v) = some v.0
-option_of Nothing = none
+abbrev pub option_of : Answer NodeIndex → Option ℕ
+option_of (Some v) = some v.0
+option_of None = none
 
 -- The greatest value at the numbers below n, 0 if there are none.
 unfoldable pub greatest_below : (ℕ → ℕ) → ℕ → ℕ

@@ -6,13 +6,6 @@ ghost use Rattle.choice.specs.Choice.{greatest_below, count_with, option_of, cho
 
 use graph::{Color, Graph, NodeIndex};
 
-// The item whose turn it is, or none.
-#[derive(Clone, Copy)]
-pub enum Choice {
-    Next(NodeIndex),
-    Nothing,
-}
-
 // The greatest of the first `n` counts.
 fn greatest(counts: &[u16], n: usize) -> u16
     requires { n ≤ length counts.now }
@@ -57,18 +50,18 @@ fn greatest_among(saturations: &[u16], saturation: u16, waiting: &[u16], n: usiz
 
 // The lowest of the items without a colour that have the greatest saturation of all items and the greatest waiting count of those with that
 // saturation; none where an item has no count, or there are more than 4,096. Where an item with a colour has both counts 0 it hides none without.
-pub fn choose(colors: &[u16], saturations: &[u16], waiting: &[u16]) -> Choice
+pub fn choose(colors: &[u16], saturations: &[u16], waiting: &[u16]) -> Option<NodeIndex>
     ensures answer { let colors = colors.entry.now in let saturations = saturations.entry.now in let waiting = waiting.entry.now in
         option_of result ≡ choice_of colors saturations waiting }
 {
     if Graph::MAX_EDGES < colors.len() {
-        return Choice::Nothing;
+        return None;
     }
     if saturations.len() < colors.len() {
-        return Choice::Nothing;
+        return None;
     }
     if waiting.len() < colors.len() {
-        return Choice::Nothing;
+        return None;
     }
     let most = greatest(saturations, colors.len());
     let longest = greatest_among(saturations, most, waiting, colors.len());
@@ -79,10 +72,10 @@ pub fn choose(colors: &[u16], saturations: &[u16], waiting: &[u16]) -> Choice
         if saturations[item] == most {
             if waiting[item] == longest {
                 if colors[item] == Color::NONE {
-                    return Choice::Next(NodeIndex(item as u16));
+                    return Some(NodeIndex(item as u16));
                 }
             }
         }
     }
-    Choice::Nothing
+    None
 }
