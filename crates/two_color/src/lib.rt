@@ -65,15 +65,9 @@ pub fn two_color(n: usize, ends: &[u16], colors: &mut [u8]) -> Result<usize, Ref
     ensures bipartition { let ends = ends.entry.now in let colors₀ = colors.old in
         Bipartition n ends colors₀ (report_of result) colors.new }
 {
-    match check_graph(n, ends) {
-        Err(refusal) => {
-            return Err(refusal);
-        }
-        Ok(graph) => {
-            if colors.len() != graph.nodes {
-                return Err(Refusal::WrongLength);
-            }
-            color_checked(n, ends, colors)
-        }
+    let graph = check_graph(n, ends)?;
+    if colors.len() != graph.nodes {
+        return Err(Refusal::WrongLength);
     }
+    color_checked(n, ends, colors)
 }
