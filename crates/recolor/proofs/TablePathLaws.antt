@@ -13,8 +13,7 @@ use Rattle.graph.proofs.EdgeLaws.{edge_at}
 use Rattle.vizing.specs.MisraGries.{is_none, edge_of_color, path}
 use Rattle.vizing.proofs.DefinitionLaws.{some_or_none, edge_of_color_some}
 use Rattle.edge_table.specs.EdgeTable.{option_of, table_edge, is_empty}
-use Rattle.edge_table.specs.declared.EdgeOfColor.{EdgeOfColor}
-use Rattle.edge_table.specs.declared.EdgeOfColor.TheVariants.{Edge, Nothing}
+use Rattle.std.specs.Prelude.{Option, Some, None}
 use Rattle.graph.specs.declared.EdgeIndex.{EdgeIndex}
 use Rattle.graph.specs.Table.{over}
 use Rattle.recolor.proofs.FrontLaws.{Front, front_start, front_next, front_all, over_front}
@@ -96,14 +95,14 @@ module _ (ends T : List ℕ) (n : ℕ) (R out₀ out : List ℕ) (len v p q : �
   unfolding table_path
   follow_full h = let f : n - len ≡ zero = omega arith in followed (rw f)
 
-  module _ (h : len < n) (answer : EdgeOfColor) (said : option_of answer ≡ table_edge T v p) where
+  module _ (h : len < n) (answer : Option EdgeIndex) (said : option_of answer ≡ table_edge T v p) where
     abbrev more : n - len ≡ suc (n - (len + 1))
     more = omega arith
 
-    pub follow_none : answer ≡ Nothing → (len ≡ length R) × (out ≡ over R out₀)
+    pub follow_none : answer ≡ None → (len ≡ length R) × (out ≡ over R out₀)
     follow_none e = followed (rw more (path_stops ends T (n - (len + 1)) v p q (sym said ∙ ap option_of e)))
 
-    pub follow_edge : (k : EdgeIndex) (w : ℕ) → answer ≡ Edge k → w ≡ far_end ends k.0 v → Following ends T n R out₀ (set out len k.0) (len + 1) w q p
+    pub follow_edge : (k : EdgeIndex) (w : ℕ) → answer ≡ Some k → w ≡ far_end ends k.0 v → Following ends T n R out₀ (set out len k.0) (len + 1) w q p
     follow_edge k w e f = record {
       bound = omega arith;
       front = front_next R out₀ out (table_path ends T (n - (len + 1)) w q p) len k.0

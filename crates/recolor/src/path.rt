@@ -3,7 +3,7 @@ ghost use Rattle.std.specs.Prelude.{◌≡◌, length};
 ghost use Rattle.graph.specs.Table.{over};
 ghost use Rattle.recolor.specs.TablePath.{table_path};
 
-use edge_table::{EdgeOfColor, edge_of_color};
+use edge_table::edge_of_color;
 use edge_walk::far_end;
 use graph::{Color, NodeIndex};
 
@@ -26,7 +26,7 @@ pub fn follow(
     let mut len = 0;
     // never full where out has a place for each node: no node comes twice
     while len < out.len() {
-        let EdgeOfColor::Edge(edge) = edge_of_color(table, end, color) else {
+        let Some(edge) = edge_of_color(table, end, color) else {
             return len;
         };
         out[len] = edge.0;

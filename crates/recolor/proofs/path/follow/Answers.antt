@@ -12,7 +12,7 @@ returns-in_default c = let all_parts = follow_none _ _ _ _ _ _ _ _ _ _ c.loop-le
 pub loop-len-preserved : goal.loop-len-preserved
 loop-len-preserved c = (
   search rules,
-  follow_edge _ _ _ _ _ _ _ _ _ _ c.loop-len.invariant.1 (omega (arith, c.loop-len.invariant.0, c.loop-len-test.true)) _ c.edge_of_color.ensures.answer _ _ c.in-Edge.is c.far_end-end.ensures.answer,
+  follow_edge _ _ _ _ _ _ _ _ _ _ c.loop-len.invariant.1 (omega (arith, c.loop-len.invariant.0, c.loop-len-test.true)) _ c.edge_of_color.ensures.answer _ _ c.in-Some.is c.far_end-end.ensures.answer,
 )
 
 pub returns : goal.returns
