@@ -25,11 +25,10 @@ use Rattle.graph.proofs.ColorLaws.{is_colored_true}
 use Rattle.vizing.proofs.DefinitionLaws.{first_joining_some}
 use Rattle.vizing.specs.Simple.{Incident}
 use Rattle.vizing.proofs.Fan.{fan_at, Grown, grown_fan, fan_nodup, fan_grown, fan_length}
-use Rattle.edge_table.specs.EdgeTable.{is_empty}
+use Rattle.edge_table.specs.EdgeTable.{option_of, is_empty}
 use Rattle.graph.specs.declared.EdgeIndex.{EdgeIndex}
-use Rattle.fan.specs.declared.candidates.Joining.{Joining}
-use Rattle.fan.specs.declared.candidates.Joining.TheVariants.{Edge, Nothing}
-use Rattle.fan.specs.Candidates.{option_of, may_join, joins_marked}
+use Rattle.std.specs.Prelude.{Option, Some, None}
+use Rattle.fan.specs.Candidates.{may_join, joins_marked}
 use Rattle.fan.proofs.CandidateLaws.{NoneJoins}
 use Rattle.misra_gries.specs.Step.{FanReady}
 
@@ -152,7 +151,7 @@ module _ (ends : List ℕ) (m : ℕ) (l T M₀ : List ℕ) (s : ℕ) (near : Lis
       marks_e = rw marked (marks_more M s e e_inside G.fan G.marks)
 
       -- It is written, and at its far end x the search answers r.
-      module _ (room : len < length out) (x : ℕ) (far : x ≡ far_end ends e u) (lo : ℕ) (passed : NoneJoins l M' s near lo) (r : Joining)
+      module _ (room : len < length out) (x : ℕ) (far : x ≡ far_end ends e u) (lo : ℕ) (passed : NoneJoins l M' s near lo) (r : Option EdgeIndex)
           (answer : option_of r ≡ first_that (joins_marked l T M' s x) (drop lo near)) where
         found : first_joining l (edges_at ends m (far_end ends e u)) (e ∷ G.fan) (edges_at ends m u) ≡ option_of r
         found = rw (← R.candidates, ← far) (sym (answer ∙ first_from l T M' s x (edges_at ends m x) (e ∷ G.fan) marks_e (R.says_free x) near lo passed))
@@ -166,11 +165,11 @@ module _ (ends : List ℕ) (m : ℕ) (l T M₀ : List ℕ) (s : ℕ) (near : Lis
             rw (add-one len, take-suc-set out len e room, append_assoc (take len out) (e ∷ []) (grow_fan ends m (suc fuel) l u (e ∷ G.fan) (far_end ends e u)))
             (rw f at G.follows)
 
-        pub growing_stop : r ≡ Nothing → take (len + 1) (set out len e) ≡ fan_of ends m l k
+        pub growing_stop : r ≡ None → take (len + 1) (set out len e) ≡ fan_of ends m l k
         growing_stop p = sym (append-nil (take (len + 1) (set out len e)))
             ∙ (rw (grow_none ends m fuel l u (e ∷ G.fan) (far_end ends e u) (found ∙ ap option_of p)) at written)
 
-        pub growing_more : (d : EdgeIndex) → r ≡ Edge d → Growing ends m l s k u (set out len e) M' (len + 1) d.0
+        pub growing_more : (d : EdgeIndex) → r ≡ Some d → Growing ends m l s k u (set out len e) M' (len + 1) d.0
         growing_more d p = record {
           fan = e ∷ G.fan;
           marks = marks_e;

@@ -6,7 +6,7 @@ ghost use Rattle.vizing.specs.MisraGries.{fan_of};
 ghost use Rattle.misra_gries.specs.Step.{FanReady};
 
 use edge_walk::far_end;
-use fan::{Joining, first_joining, set_mark, skip};
+use fan::{first_joining, set_mark, skip};
 use graph::{EdgeIndex, NodeIndex};
 
 // The fan of the edge at its first end, the node, whose edges are `near`. It goes to the front of out; the answer is its length.
@@ -37,7 +37,7 @@ pub(crate) fn grow(
         len += 1;
         let far = far_end(ends, next, node);
         lo = skip(work, marks, stamp, near, lo);
-        let Joining::Edge(joining) = first_joining(work, table, marks, stamp, far, near, lo) else {
+        let Some(joining) = first_joining(work, table, marks, stamp, far, near, lo) else {
             return len;
         };
         next = joining;

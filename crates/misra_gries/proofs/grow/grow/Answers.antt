@@ -23,7 +23,7 @@ loop-len-preserved c = let ready = c.requires.fan_ready in
       search rules,
       c.set_mark.auto.marks ∙ c.loop-len.invariant.1,
       growing_more _ _ _ _ _ _ _ _ _ ready _ _ _ _ c.loop-len.invariant.2 _ c.set_mark.ensures.marks c.loop-len-test.true _ c.far_end-far.ensures.answer _
-          passed _ c.first_joining.ensures.answer _ c.in-Edge.is,
+          passed _ c.first_joining.ensures.answer _ c.in-Some.is,
       passed,
     )
 
