@@ -18,11 +18,6 @@ use Rattle.graph.specs.Color.{smallest_from, no_color}
 use Rattle.graph.specs.Colored.{color_of, smallest_free_at}
 use Rattle.graph.proofs.ColorLaws.{smaller_stands, smallest_none_has}
 use Rattle.graph.specs.Stretch.{stretch, Table}
-use Rattle.edge_walk.specs.Walk.{step_at}
-use Rattle.edge_walk.proofs.WalkLaws.{step_end, step_edge}
-use Rattle.graph.specs.declared.EdgeIndex.{EdgeIndex}
-use Rattle.edge_walk.specs.declared.walk.WalkStep.{WalkStep}
-use Rattle.edge_walk.specs.declared.walk.WalkStep.TheVariants.{Edge, End}
 use Rattle.smallest_color.specs.Marks.{far_colors, Marked, FirstUnmarked}
 use Rattle.graph.proofs.EdgeLaws.{edge_at, at_edge}
 use Rattle.graph.proofs.CheckLaws.{passed_inside}
@@ -60,18 +55,15 @@ module _ (ends colors : List ℕ) (v : ℕ) (ks marks : List ℕ) where
   far_marked_begin m = m
 
   module _ (i : ℕ) (m : Marked marks (far_colors ends colors v (take i ks))) where
-    -- The walk's step gives edge k and the place after it.
-    pub far_marked_next : (r : WalkStep) (k : EdgeIndex) (next w c : ℕ) (marks' : List ℕ) → r ≡ step_at ks i → r ≡ Edge k next → w ≡ far_end ends k.0 v → c ≡ color_of colors w → marks' ≡ set marks c 1
-        → Marked marks' (far_colors ends colors v (take next ks))
+    pub far_marked_next : (w c : ℕ) (marks' : List ℕ) → i < length ks → w ≡ far_end ends (get_or ks i 0) v → c ≡ color_of colors w → marks' ≡ set marks c 1 → Marked marks' (far_colors ends colors v (take (i + 1) ks))
     unfolding far_colors
-    far_marked_next r k next w c marks' a b p q m' =
-        let s = step_edge ks i r k next a b in
-        let e : c ≡ color_of colors (far_end ends (get_or ks i 0) v) = q ∙ ap (color_of colors) (p ∙ ap (λ (j : ℕ). far_end ends j v) s.1) in
-        let t = ap (far_colors ends colors v) (ap (λ (j : ℕ). take j ks) (s.2 ∙ add-one i) ∙ take-suc ks i 0 s.0) ∙ map_append (λ (k : ℕ). color_of colors (far_end ends k v)) (take i ks) (get_or ks i 0 ∷ []) in
+    far_marked_next w c marks' h p q m' =
+        let e : c ≡ color_of colors (far_end ends (get_or ks i 0) v) = q ∙ ap (color_of colors) p in
+        let t = ap (far_colors ends colors v) (ap (λ (j : ℕ). take j ks) (add-one i) ∙ take-suc ks i 0 h) ∙ map_append (λ (k : ℕ). color_of colors (far_end ends k v)) (take i ks) (get_or ks i 0 ∷ []) in
         rw (m', e, t) (marked_more marks (far_colors ends colors v (take i ks)) (color_of colors (far_end ends (get_or ks i 0) v)) m)
 
-    pub far_marked_end : (r : WalkStep) → r ≡ step_at ks i → r ≡ End → Marked marks (far_colors ends colors v ks)
-    far_marked_end r a b = subst (λ (l : List ℕ). Marked marks (far_colors ends colors v l)) (take_all i ks (step_end ks i r a b)) m
+    pub far_marked_end : {stretch : List ℕ} → ks ≡ stretch → length ks ≤ i → Marked marks (far_colors ends colors v stretch)
+    far_marked_end e h = subst (λ (l : List ℕ). Marked marks (far_colors ends colors v l)) (take_all i ks h ∙ e) m
 
 -- ---- the first place without a mark
 

@@ -9,7 +9,7 @@ ghost use Rattle.graph.specs.Stretch.{stretch};
 ghost use Rattle.smallest_color.specs.EdgeMarks.{colors_of};
 ghost use Rattle.smallest_color.specs.Marks.{far_colors, Marked, FirstUnmarked};
 
-use edge_walk::{WalkStep, edge_at, edges_at, end_at, far_end};
+use edge_walk::{edges_at, end_at, far_end};
 use graph::{Color, EdgeIndex, Graph, NodeIndex};
 
 // So many marks are cleared where fewer edges stand at an item: most items of most graphs have few.
@@ -39,7 +39,7 @@ fn color_of(colors: &[u16], place: usize) -> Color
     }
 }
 
-// Marks the colours at the far ends of the node's edges, which the walk gives one after another.
+// Marks the colours at the far ends of the node's edges.
 fn mark_far_colors(
     ends: &[u16],
     starts: &[u16],
@@ -54,18 +54,10 @@ fn mark_far_colors(
         Marked marks.new (far_colors ends colors node.0 (stretch starts entries node.0)) }
     ensures marks_length { length marks.new ≡ length marks.old }
 {
-    let mut at = 0;
-    loop {
-        match edge_at(starts, entries, node, at) {
-            WalkStep::End => {
-                return;
-            }
-            WalkStep::Edge(edge, next) => {
-                let far = far_end(ends, edge, node);
-                mark(marks, color_of(colors, far.0 as usize));
-                at = next;
-            }
-        }
+    let edges = edges_at(starts, entries, node);
+    for edge in edges {
+        let far = far_end(ends, EdgeIndex(*edge), node);
+        mark(marks, color_of(colors, far.0 as usize));
     }
 }
 
