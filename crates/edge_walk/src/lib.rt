@@ -7,8 +7,10 @@ ghost use Rattle.graph.specs.Stretch.{bounds, stretch};
 
 use graph::{EdgeIndex, NodeIndex};
 
+pub mod table;
 pub mod walk;
 
+pub use table::IncidenceTable;
 pub use walk::{EdgeWalk, edge_at};
 
 // The edges at a node, as a part of the entries. Starts that do not cover the node, fall, or pass the entries' end give the

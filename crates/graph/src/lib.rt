@@ -5,9 +5,11 @@ ghost use Rattle.std.specs.Prelude.{◌≡◌};
 ghost use Rattle.graph.specs.Report.{number};
 
 mod check;
+pub mod checked;
 mod colors;
 
 pub use check::check_graph;
+pub use checked::CheckedGraph;
 pub use colors::copy_colors;
 
 // A node's number; never taken for an edge's.
