@@ -18,8 +18,7 @@ use Rattle.greedy.specs.Turn.{uncolored}
 use Rattle.greedy.proofs.TurnLaws.{last_colored, last_uncolored, uncolored_member, color_item_lem}
 use Rattle.greedy.specs.Saturation.{greater, greatest, saturation_from, saturation_colors}
 use Rattle.greedy.proofs.SaturationLaws.{greatest_member}
-use Rattle.choice.specs.declared.Choice.{Choice}
-use Rattle.choice.specs.declared.Choice.TheVariants.{Next, Nothing}
+use Rattle.std.specs.Prelude.{Option, Some, None}
 use Rattle.choice.specs.Choice.{option_of, choice_of}
 use Rattle.choice.proofs.ChoiceLaws.{Best, some_best, none_bare}
 use Rattle.items.specs.declared.Kind.{Kind}
@@ -120,14 +119,14 @@ module _ (nb : ℕ → List ℕ) (colors saturations waiting : List ℕ) (counte
 
 -- The choice between two turns.
 module _ (kind : Kind) (n : ℕ) (ends starts entries colors saturations waiting : List ℕ) (ready : CountsReady kind n ends starts entries colors saturations waiting)
-    (choice : Choice) (said : option_of choice ≡ choice_of colors saturations waiting) where
+    (choice : Option NodeIndex) (said : option_of choice ≡ choice_of colors saturations waiting) where
   few : length colors ≤ 4096
   few = items_few kind n ends (length colors) ready.tabled.sized
 
-  pub chosen_none : choice ≡ Nothing → uncolored colors (length colors) ≡ []
+  pub chosen_none : choice ≡ None → uncolored colors (length colors) ≡ []
   chosen_none e = none_uncolored colors (length colors) (none_bare colors saturations waiting few ready.saturations_room ready.waiting_room ready.cleared.counts (sym (ap option_of e) ∙ said))
 
-  pub chosen_next : (v : NodeIndex) → choice ≡ Next v → Leads (neighbors_of kind n ends) colors (length colors) v.0
+  pub chosen_next : (v : NodeIndex) → choice ≡ Some v → Leads (neighbors_of kind n ends) colors (length colors) v.0
   chosen_next v e = best_leads (neighbors_of kind n ends) colors saturations waiting ready.counted v.0 (some_best colors saturations waiting few ready.saturations_room ready.waiting_room v.0 (sym (ap option_of e) ∙ said))
 
 -- ---- the turns

@@ -58,13 +58,6 @@ pub fn color(
     ensures colors { let ends = ends.entry.now in let presets = presets.entry.now in let colors₀ = colors.old in
         colors.new ≡ (greedy_of kind saturation_colors n ends presets colors₀).colors }
 {
-    match check_items(kind, n, ends, presets.len(), colors.len()) {
-        Err(refusal) => {
-            return Err(refusal);
-        }
-        Ok(_graph) => {
-            let days = color_checked(kind, n, ends, presets, colors);
-            Ok(days)
-        }
-    }
+    check_items(kind, n, ends, presets.len(), colors.len())?;
+    Ok(color_checked(kind, n, ends, presets, colors))
 }

@@ -5,7 +5,7 @@ ghost use Rattle.items.specs.Items.{neighbors_of, Tabled};
 ghost use Rattle.saturation.specs.Counts.{CountsReady, Preset, turn_of};
 
 use crate::counts::{start, take_color};
-use choice::{Choice, choose};
+use choice::choose;
 use graph::{Color, NodeIndex};
 use items::{Kind, free_color};
 
@@ -26,23 +26,20 @@ fn turn(
     ensures ready { let ends = ends.entry.now in let starts = starts.entry.now in let entries = entries.entry.now in
         CountsReady kind n ends starts entries colors.new saturations.new waiting.new }
 {
-    match choose(colors, saturations, waiting) {
-        Choice::Nothing => {}
-        Choice::Next(item) => {
-            let color = free_color(kind, ends, starts, entries, colors, item);
-            take_color(
-                kind,
-                n,
-                ends,
-                starts,
-                entries,
-                colors,
-                saturations,
-                waiting,
-                item,
-                color,
-            );
-        }
+    if let Some(item) = choose(colors, saturations, waiting) {
+        let color = free_color(kind, ends, starts, entries, colors, item);
+        take_color(
+            kind,
+            n,
+            ends,
+            starts,
+            entries,
+            colors,
+            saturations,
+            waiting,
+            item,
+            color,
+        );
     }
 }
 
