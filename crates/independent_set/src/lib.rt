@@ -62,21 +62,15 @@ pub fn color_nodes(
     ensures colors { let ends = ends.entry.now in let presets = presets.entry.now in let colors₀ = colors.old in
         colors.new ≡ (greedy_nodes independent_set_colors n ends presets colors₀).colors }
 {
-    match check_nodes(n, ends, presets.len(), colors.len()) {
-        Err(refusal) => {
-            return Err(refusal);
-        }
-        Ok(_) => {
-            let items = Items {
-                edges: false,
-                nodes: n,
-                count: n,
-            };
-            color_checked(items, ends, presets, colors);
-            let days = days_of(colors);
-            Ok(days)
-        }
-    }
+    check_nodes(n, ends, presets.len(), colors.len())?;
+    let items = Items {
+        edges: false,
+        nodes: n,
+        count: n,
+    };
+    color_checked(items, ends, presets, colors);
+    let days = days_of(colors);
+    Ok(days)
 }
 
 // Edge colouring with presets, by independent sets of the line list, which is never stored.
@@ -91,19 +85,13 @@ pub fn color_edges(
     ensures colors { let ends = ends.entry.now in let presets = presets.entry.now in let colors₀ = colors.old in
         colors.new ≡ (greedy_edges independent_set_colors n ends presets colors₀).colors }
 {
-    match check_edges(n, ends, presets.len(), colors.len()) {
-        Err(refusal) => {
-            return Err(refusal);
-        }
-        Ok(_) => {
-            let items = Items {
-                edges: true,
-                nodes: n,
-                count: ends.len() / 2,
-            };
-            color_checked(items, ends, presets, colors);
-            let count = days_of(colors);
-            Ok(count)
-        }
-    }
+    check_edges(n, ends, presets.len(), colors.len())?;
+    let items = Items {
+        edges: true,
+        nodes: n,
+        count: ends.len() / 2,
+    };
+    color_checked(items, ends, presets, colors);
+    let count = days_of(colors);
+    Ok(count)
 }
