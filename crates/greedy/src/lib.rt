@@ -8,7 +8,7 @@ ghost use Rattle.greedy.specs.Call.{check_items, check_nodes, check_edges};
 use graph::{Graph, Refusal, check_graph};
 
 // Which of the strategies colours.
-#[derive(Clone, Copy)]
+#[derive(Clone, Copy, PartialEq, Eq, Debug)]
 pub enum ColoringStrategy {
     Degree,
     Saturation,
@@ -26,16 +26,14 @@ fn check_items(
     ensures report { report_of_checked result ≡ check_items n ends.now items presets colors }
 {
     let graph = check_graph(n, ends)?;
-    if colors != items {
-        return Err(Refusal::WrongLength);
-    }
-    if presets != items {
+    if colors != items || presets != items {
         return Err(Refusal::WrongLength);
     }
     Ok(graph)
 }
 
 // The checks of node colouring, given how many presets and colours are lent.
+#[tactic(auto, unfolding(crate::specs::Call::check_nodes))]
 pub fn check_nodes(n: usize, ends: &[u16], presets: usize, colors: usize) -> Result<Graph, Refusal>
     ensures report { report_of_checked result ≡ check_nodes n ends.now presets colors }
 {
@@ -43,6 +41,7 @@ pub fn check_nodes(n: usize, ends: &[u16], presets: usize, colors: usize) -> Res
 }
 
 // The same of edge colouring.
+#[tactic(auto, unfolding(crate::specs::Call::check_edges))]
 pub fn check_edges(n: usize, ends: &[u16], presets: usize, colors: usize) -> Result<Graph, Refusal>
     ensures report { report_of_checked result ≡ check_edges n ends.now presets colors }
 {
