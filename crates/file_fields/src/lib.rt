@@ -9,7 +9,7 @@ pub use layout::layout_of;
 pub use numbers::copy_numbers;
 
 // How a saved list was coloured, the byte of tag 4.
-#[derive(Clone, Copy)]
+#[derive(Clone, Copy, PartialEq, Eq, Debug)]
 pub struct Method(pub u8);
 
 impl Method {
@@ -27,17 +27,10 @@ impl Method {
 }
 
 // The node count, the edge count, which tags stood, and the method.
-#[derive(Clone, Copy)]
+#[derive(Clone, Copy, PartialEq, Eq, Debug)]
 pub struct FileSummary {
     pub nodes: usize,
     pub edges: usize,
     pub tags: u8,
     pub method: u8,
-}
-
-// What stands in a file, or that it has another layout.
-#[derive(Clone, Copy)]
-pub enum FileLayout {
-    Saved(FileSummary),
-    Malformed,
 }

@@ -1,28 +1,29 @@
 -- `after_colors` meets its contract: one law for each answer.
 use native.Mathlib.Omega.{arith}
+use Rattle.std.specs.Prelude.{Some}
 use Rattle.file_fields.proofs.LayoutLaws.{colors_end, method_cut, method_tag, method_length, method_more, method_last}
 use Rattle.file_fields.proofs.layout.after_colors.Goals as goal
 
 pub returns-then-at-bytes : goal.returns-then-at-bytes
-returns-then-at-bytes c = let s = c.args in record { answer = colors_end _ s.at s.nodes s.edges c.if-at-bytes.true c.without_method.result c.without_method.ensures.answer }
+returns-then-at-bytes c = let s = c.args in record { answer = colors_end _ s.at s.nodes s.edges c.if-at-bytes.true (Some c.without_method.result) c.without_method.ensures.answer }
 
-pub returns-in-Truncated : goal.returns-in-Truncated
-returns-in-Truncated c = let s = c.args in record { answer = method_cut _ s.at s.nodes s.edges _ c.field_at.ensures.answer c.in-Truncated.is (λ z. omega arith) c.requires }
+pub returns-in_err-field : goal.returns-in_err-field
+returns-in_err-field c = let s = c.args in record { answer = rw c.from_residual.ensures (method_cut _ s.at s.nodes s.edges _ c.field_at.ensures.answer c.in_err-field.was (λ z. omega arith) c.requires) }
 
 pub bounds-bytes-start : goal.bounds-bytes-start
-bounds-bytes-start c = omega (arith, c.field_at.ensures.inside _ c.in-Whole.is)
+bounds-bytes-start c = omega (arith, c.field_at.ensures.inside _ c.in_ok-field.was)
 
 pub overflow_add-field : goal.overflow_add-field
-overflow_add-field c = omega (arith, c.field_at.ensures.inside _ c.in-Whole.is)
+overflow_add-field c = omega (arith, c.field_at.ensures.inside _ c.in_ok-field.was)
 
 pub returns-then-field-ne4 : goal.returns-then-field-ne4
-returns-then-field-ne4 c = let s = c.args in record { answer = method_tag _ s.at s.nodes s.edges _ c.field_at.ensures.answer _ c.in-Whole.is (λ z. omega arith) }
+returns-then-field-ne4 c = let s = c.args in record { answer = method_tag _ s.at s.nodes s.edges _ c.field_at.ensures.answer _ c.in_ok-field.was (λ z. omega arith) }
 
 pub returns-then-field-ne1 : goal.returns-then-field-ne1
-returns-then-field-ne1 c = let s = c.args in record { answer = method_length _ s.at s.nodes s.edges _ c.field_at.ensures.answer _ c.in-Whole.is c.field_at.ensures.inside (λ z. omega arith) }
+returns-then-field-ne1 c = let s = c.args in record { answer = method_length _ s.at s.nodes s.edges _ c.field_at.ensures.answer _ c.in_ok-field.was c.field_at.ensures.inside (λ z. omega arith) }
 
 pub returns-then-field-bytes : goal.returns-then-field-bytes
-returns-then-field-bytes c = let s = c.args in record { answer = method_more _ s.at s.nodes s.edges _ c.field_at.ensures.answer _ c.in-Whole.is c.field_at.ensures.inside (omega arith) (λ z. omega arith) }
+returns-then-field-bytes c = let s = c.args in record { answer = method_more _ s.at s.nodes s.edges _ c.field_at.ensures.answer _ c.in_ok-field.was c.field_at.ensures.inside (omega arith) (λ z. omega arith) }
 
 pub returns : goal.returns
-returns c = let s = c.args in record { answer = method_last _ s.at s.nodes s.edges _ c.field_at.ensures.answer _ c.in-Whole.is c.field_at.ensures.inside (omega arith) (omega arith) (omega arith) (omega arith) }
+returns c = let s = c.args in record { answer = method_last _ s.at s.nodes s.edges _ c.field_at.ensures.answer _ c.in_ok-field.was c.field_at.ensures.inside (omega arith) (omega arith) (omega arith) (omega arith) }

@@ -3,14 +3,14 @@ use native.Mathlib.Omega.{arith}
 use Rattle.file_fields.proofs.LayoutLaws.{ends_cut, ends_read}
 use Rattle.file_fields.proofs.layout.after_nodes.Goals as goal
 
-pub returns-in-Truncated : goal.returns-in-Truncated
-returns-in-Truncated c = let s = c.args in record { answer = ends_cut _ s.at s.nodes _ c.field_at.ensures.answer c.in-Truncated.is }
+pub returns-in_err-field : goal.returns-in_err-field
+returns-in_err-field c = let s = c.args in record { answer = rw c.from_residual.ensures (ends_cut _ s.at s.nodes _ c.field_at.ensures.answer c.in_err-field.was) }
 
 pub overflow_add-field : goal.overflow_add-field
-overflow_add-field c = omega (arith, c.field_at.ensures.inside _ c.in-Whole.is)
+overflow_add-field c = omega (arith, c.field_at.ensures.inside _ c.in_ok-field.was)
 
 pub after_ends-requires : goal.after_ends-requires
-after_ends-requires c = (c.field_at.ensures.inside _ c.in-Whole.is, omega arith)
+after_ends-requires c = (c.field_at.ensures.inside _ c.in_ok-field.was, omega arith)
 
 pub returns : goal.returns
-returns c = let s = c.args in record { answer = ends_read _ s.at s.nodes _ c.field_at.ensures.answer _ c.in-Whole.is c.field_at.ensures.inside (omega arith) (omega arith) (omega arith) c.after_ends.result c.after_ends.ensures.answer }
+returns c = let s = c.args in record { answer = ends_read _ s.at s.nodes _ c.field_at.ensures.answer _ c.in_ok-field.was c.field_at.ensures.inside (omega arith) (omega arith) (omega arith) c.after_ends.result c.after_ends.ensures.answer }
