@@ -9,7 +9,7 @@ use lib.ListN.{length, take, drop}
 use Rattle.lists.specs.Search.{all_below}
 use Rattle.lists.specs.Parts.{copied_over}
 use Rattle.lists.proofs.PartsLaws.{copied_room}
-use Rattle.graph.specs.Report.{Report, accepted, refused}
+use Rattle.graph.specs.Report.{Report, accepted, refused, number}
 use Rattle.graph.specs.Edges.{edge_count}
 use Rattle.graph.specs.Table.{over}
 use Rattle.file_layout.specs.Fields.{numbers}
@@ -20,11 +20,22 @@ use Rattle.file_fields.specs.Layout.{summary_of, shown_layout}
 use Rattle.file_layout.proofs.FileLaws.{laid_out, ends_there, colors_start, colors_count, ColorsThere, colors_there}
 use Rattle.file_layout.proofs.OutcomeLaws.{read_bad, short_ends, short_colors, file_read, file_reader}
 use Rattle.file_fields.specs.declared.FileSummary.{FileSummary}
-use Rattle.file_fields.specs.declared.FileLayout.{FileLayout}
-use Rattle.file_fields.specs.declared.FileLayout.TheVariants as L
+use Rattle.std.specs.Prelude.{Some, None, Result, Ok, Err, ok_or}
+use Rattle.std.specs.Prelude.{Option as Answer}
+use Rattle.graph.specs.declared.Refusal.{Refusal}
+use Rattle.graph.specs.declared.Refusal.TheVariants.{BadFile}
 
 abbrev left : Report Summary → List ℕ → List ℕ → ReadOutcome
 left report ends colors = record { report = report; ends = ends; colors = colors }
+
+-- What is refused had no layout, and what is accepted had this one.
+refused_none : (r : Answer FileSummary) (k : Refusal) → ok_or r BadFile ≡ Err k → (r ≡ None) × (k ≡ BadFile)
+refused_none None k q = (refl, cc)
+refused_none (Some s) k q = cc
+
+accepted_some : (r : Answer FileSummary) (s : FileSummary) → ok_or r BadFile ≡ Ok s → r ≡ Some s
+accepted_some None s q = cc
+accepted_some (Some t) s q = cc
 
 -- What the layout says of the file.
 no_file : (o : Option File) → none ≡ summary_of o → o ≡ none
@@ -56,13 +67,15 @@ module _ (bytes ends₀ colors₀ : List ℕ) (b : all_below 256 bytes ≡ true)
       let r = ap (λ (o : ReadOutcome). o.colors) (sym e) in
       (p, (q, (r, file_reader bytes ends₀ colors₀ b report ends colors p q r)))
 
-  module _ (r : FileLayout) (e : shown_layout r ≡ summary_of (file_of bytes)) where
-    pub answer_bad : r ≡ L.Malformed → Promised (refused 10) ends₀ colors₀
-    answer_bad q = promised _ _ _ (read_bad bytes ends₀ colors₀ (no_file (file_of bytes) (ap shown_layout (sym q) ∙ e)))
+  module _ (r : Answer FileSummary) (e : shown_layout r ≡ summary_of (file_of bytes)) (x : Result FileSummary Refusal) (v : x ≡ ok_or r BadFile) where
+    pub answer_bad : (k : Refusal) → x ≡ Err k → Promised (refused (number k)) ends₀ colors₀
+    answer_bad k q =
+        let p = refused_none r k (sym v ∙ q) in
+        rw p.1 (promised _ _ _ (read_bad bytes ends₀ colors₀ (no_file (file_of bytes) (ap shown_layout (sym p.0) ∙ e))))
 
-    module _ (s : FileSummary) (q : r ≡ L.Saved s) where
+    module _ (s : FileSummary) (q : x ≡ Ok s) where
       abbrev found : (file : File) × (file_of bytes ≡ some file) × (summary file ≡ (s.nodes, s.edges, s.tags, s.method))
-      found = some_file (file_of bytes) (s.nodes, s.edges, s.tags, s.method) (ap shown_layout (sym q) ∙ e)
+      found = some_file (file_of bytes) (s.nodes, s.edges, s.tags, s.method) (ap shown_layout (sym (accepted_some r s (sym v ∙ q))) ∙ e)
 
       laid : LaidOut bytes found.0
       laid = laid_out bytes found.0 b found.1

@@ -6,23 +6,11 @@ ghost use Rattle.file_layout.specs.Outcomes.{read_file};
 ghost use Rattle.file_layout.specs.Reliance.{FileReader};
 ghost use Rattle.graph_file.specs.Report.{report_of_file};
 
-use file_fields::{FileLayout, copy_numbers, layout_of};
+use file_fields::{FileSummary, copy_numbers, layout_of};
 use graph::Refusal;
 
-// The answer of reading a file. Bit t - 1 of `tags` is set where tag t stood; `method` is `Method::UNNAMED` where tag 4 did not stand.
-#[derive(Clone, Copy)]
-pub enum FileAnswer {
-    Accepted {
-        nodes: usize,
-        edges: usize,
-        tags: u8,
-        method: u8,
-    },
-    Refused(Refusal),
-}
-
 // Where the colours of a file start, and their number.
-#[derive(Clone, Copy)]
+#[derive(Clone, Copy, PartialEq, Eq, Debug)]
 struct ColorsPlace {
     start: usize,
     count: usize,
@@ -43,7 +31,11 @@ fn colors_place(tags: u8, edges: usize) -> ColorsPlace
 }
 
 // The ends and the colours are copied to the fronts of the lent lists; they are not tested.
-pub fn read_graph_file(bytes: &[u8], ends: &mut [u16], colors: &mut [u16]) -> FileAnswer
+pub fn read_graph_file(
+    bytes: &[u8],
+    ends: &mut [u16],
+    colors: &mut [u16],
+) -> Result<FileSummary, Refusal>
     ensures report { let bytes = bytes.entry.now in let ends₀ = ends.old in let colors₀ = colors.old in
         report_of_file result ≡ (read_file bytes ends₀ colors₀).report }
     ensures ends { let bytes = bytes.entry.now in let ends₀ = ends.old in let colors₀ = colors.old in
@@ -53,32 +45,18 @@ pub fn read_graph_file(bytes: &[u8], ends: &mut [u16], colors: &mut [u16]) -> Fi
     ensures layout { let bytes = bytes.entry.now in let ends₀ = ends.old in let colors₀ = colors.old in
         FileReader bytes ends₀ colors₀ (report_of_file result) ends.new colors.new }
 {
-    match layout_of(bytes) {
-        FileLayout::Malformed => {
-            return FileAnswer::Refused(Refusal::BadFile);
-        }
-        FileLayout::Saved(file) => {
-            let nodes = file.nodes;
-            let edges = file.edges;
-            let tags = file.tags;
-            let method = file.method;
-            if ends.len() < 2 * edges {
-                return FileAnswer::Refused(Refusal::WrongLength);
-            }
-            let place = colors_place(tags, edges);
-            let start = place.start;
-            let count = place.count;
-            if colors.len() < count {
-                return FileAnswer::Refused(Refusal::WrongLength);
-            }
-            copy_numbers(&bytes[8..8 + 4 * edges], ends);
-            copy_numbers(&bytes[start..start + 2 * count], colors);
-            FileAnswer::Accepted {
-                nodes,
-                edges,
-                tags,
-                method,
-            }
-        }
+    let file = layout_of(bytes).ok_or(Refusal::BadFile)?;
+    let edges = file.edges;
+    if ends.len() < 2 * edges {
+        return Err(Refusal::WrongLength);
     }
+    let place = colors_place(file.tags, edges);
+    let start = place.start;
+    let count = place.count;
+    if colors.len() < count {
+        return Err(Refusal::WrongLength);
+    }
+    copy_numbers(&bytes[8..8 + 4 * edges], ends);
+    copy_numbers(&bytes[start..start + 2 * count], colors);
+    Ok(file)
 }
