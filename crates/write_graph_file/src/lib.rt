@@ -28,25 +28,18 @@ pub fn write_graph_file(
     ensures layout { let ends = ends.entry.now in let colors = colors.entry.now in let output₀ = output.old in
         FileWriter n ends colors tags method output₀ (report_of result) output.new }
 {
-    match check_graph(n, ends) {
-        Err(refusal) => {
-            return Err(refusal);
-        }
-        Ok(graph) => {
-            let edges = graph.edges;
-            if told::misnamed(tags, method) {
-                return Err(Refusal::BadFile);
-            }
-            if told::wrong_colors(tags, colors.len(), edges) {
-                return Err(Refusal::WrongLength);
-            }
-            let length = told::file_length(tags, edges);
-            if output.len() < length {
-                return Err(Refusal::WrongLength);
-            }
-            put::put_graph(output, n, ends);
-            put::put_told(output, 8 + 4 * edges, colors, tags, method);
-            Ok(length)
-        }
+    let edges = check_graph(n, ends)?.edges;
+    if told::misnamed(tags, method) {
+        return Err(Refusal::BadFile);
     }
+    if told::wrong_colors(tags, colors.len(), edges) {
+        return Err(Refusal::WrongLength);
+    }
+    let length = told::file_length(tags, edges);
+    if output.len() < length {
+        return Err(Refusal::WrongLength);
+    }
+    put::put_graph(output, n, ends);
+    put::put_told(output, 8 + 4 * edges, colors, tags, method);
+    Ok(length)
 }

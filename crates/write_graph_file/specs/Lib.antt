@@ -1,1 +1,0 @@
--- How writing a file answers.
