@@ -7,20 +7,14 @@ use graph::{Graph, Refusal};
 use greedy::ColoringStrategy;
 
 // What a number names.
-#[derive(Clone, Copy)]
-pub enum StrategyNumber {
-    Known(ColoringStrategy),
-    Unknown,
-}
-
-pub fn strategy_of(number: u8) -> StrategyNumber
+pub fn strategy_of(number: u8) -> Option<ColoringStrategy>
     ensures answer { strategy_named result ≡ strategy_of number }
 {
     match number {
-        0 => StrategyNumber::Known(ColoringStrategy::Degree),
-        1 => StrategyNumber::Known(ColoringStrategy::Saturation),
-        2 => StrategyNumber::Known(ColoringStrategy::IndependentSet),
-        _ => StrategyNumber::Unknown,
+        0 => Some(ColoringStrategy::Degree),
+        1 => Some(ColoringStrategy::Saturation),
+        2 => Some(ColoringStrategy::IndependentSet),
+        _ => None,
     }
 }
 
