@@ -1,7 +1,8 @@
 -- Laws of a call by the strategy of a number: one for each answer of the code.
 use Rattle.graph.specs.declared.Refusal.{Refusal}
 use Rattle.graph.specs.declared.Graph.{Graph}
-use Rattle.std.specs.Prelude.{Result}
+use Rattle.std.specs.Prelude.{Result, Some, None}
+use Rattle.std.specs.Prelude.{Option as Answer}
 use Prim.Native.Nat.{ℕ}
 use mathlib.Core.Bool.{true}
 use mathlib.Core.List.{List, [], ◌∷◌, ◌++◌}
@@ -17,8 +18,6 @@ use Rattle.greedy.specs.Call.{Rule, rule_of, item_checks, check_items}
 use Rattle.greedy.specs.declared.ColoringStrategy.{ColoringStrategy}
 use Rattle.c_answer.specs.Answer.{Told, Answered}
 use Rattle.c_answer.specs.Strategy.{strategy_of, strategy_named, code_of_unknown}
-use Rattle.c_answer.specs.declared.strategy.StrategyNumber.{StrategyNumber}
-use Rattle.c_answer.specs.declared.strategy.StrategyNumber.TheVariants as N
 use Rattle.c_answer.proofs.AnswerLaws.{answered_by}
 use Rattle.capi.specs.Strategy.{unknown_strategy, by_number}
 
@@ -41,15 +40,15 @@ module _ (items n : ℕ) (ends presets lent : List ℕ) (c : Result Graph Refusa
 
 -- ---- the call by a number
 
-module _ (number : ℕ) (s : StrategyNumber) (e : strategy_named s ≡ strategy_of number) (call : Rule → Outcome) where
-  pub known_answered : (other : Outcome) (strategy : ColoringStrategy) → s ≡ N.Known strategy → (report : Report ℕ) (before r after : ℕ) (lent : List ℕ)
+module _ (number : ℕ) (s : Answer ColoringStrategy) (e : strategy_named s ≡ strategy_of number) (call : Rule → Outcome) where
+  pub known_answered : (other : Outcome) (strategy : ColoringStrategy) → s ≡ Some strategy → (report : Report ℕ) (before r after : ℕ) (lent : List ℕ)
       → Told report before r after → report ≡ (call (rule_of strategy)).report → lent ≡ (call (rule_of strategy)).colors
       → Answered (by_number number call other).report (by_number number call other).colors before r after lent
   unfolding by_number
   known_answered other strategy p report before r after lent t q w =
       let named : strategy_of number ≡ some strategy = sym e ∙ ap strategy_named p in rw (named, by_number) (answered_by report before r after _ _ lent t q w)
 
-  pub unknown_answered : (items n : ℕ) (ends presets lent : List ℕ) → s ≡ N.Unknown → (c : Result Graph Refusal) (before r : ℕ)
+  pub unknown_answered : (items n : ℕ) (ends presets lent : List ℕ) → s ≡ None → (c : Result Graph Refusal) (before r : ℕ)
       → r ≡ code_of_unknown (report_of_checked c) → report_of_checked c ≡ check_items n ends items (length presets) (length lent)
       → let outcome = by_number number call (unknown_strategy items n ends presets lent) in Answered outcome.report outcome.colors before r before lent
   unfolding by_number

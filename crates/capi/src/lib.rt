@@ -15,10 +15,7 @@ ghost use Rattle.days.specs.FewerDays.{fewer_days};
 ghost use Rattle.c_answer.specs.Answer.{Answered};
 ghost use Rattle.capi.specs.Strategy.{nodes_by_number, edges_by_number};
 
-use c_answer::{
-    StrategyNumber, answer_coloring, answer_file, answer_incidence, answer_line_list,
-    answer_writing, strategy_of, unknown_strategy,
-};
+use c_answer::{answer_count, answer_file, strategy_of, unknown_strategy};
 use days::fewer_days_part;
 
 #[unsafe(no_mangle)]
@@ -34,7 +31,7 @@ pub extern "C" fn wg_incidence(
         Answered {B = List ℕ × List ℕ} outcome.report (outcome.starts, outcome.entries) total.old result
         total.new (starts.new, entries.new) }
 {
-    answer_incidence(wulgranite::incidence(n, ends, starts, entries), total)
+    answer_count(wulgranite::incidence(n, ends, starts, entries), total)
 }
 
 #[unsafe(no_mangle)]
@@ -42,7 +39,7 @@ pub extern "C" fn wg_two_color(n: usize, ends: &[u16], colors: &mut [u8], days: 
     ensures answered { let ends = ends.entry.now in let colors₀ = colors.old in let outcome = two_color n ends colors₀ in
         Answered outcome.report outcome.colors days.old result days.new colors.new }
 {
-    answer_coloring(wulgranite::two_color(n, ends, colors), days)
+    answer_count(wulgranite::two_color(n, ends, colors), days)
 }
 
 #[unsafe(no_mangle)]
@@ -56,7 +53,7 @@ pub extern "C" fn wg_greedy_node_color(
         let outcome = greedy_nodes_plain degree_colors n ends colors₀ in
         Answered outcome.report outcome.colors days.old result days.new colors.new }
 {
-    answer_coloring(wulgranite::greedy_node_color(n, ends, colors), days)
+    answer_count(wulgranite::greedy_node_color(n, ends, colors), days)
 }
 
 #[unsafe(no_mangle)]
@@ -71,7 +68,7 @@ pub extern "C" fn wg_greedy_node_color_with_preset_colors(
         let outcome = greedy_nodes degree_colors n ends presets colors₀ in
         Answered outcome.report outcome.colors days.old result days.new colors.new }
 {
-    answer_coloring(
+    answer_count(
         wulgranite::greedy_node_color_with_preset_colors(n, ends, presets, colors),
         days,
     )
@@ -91,11 +88,11 @@ pub extern "C" fn wg_greedy_node_color_with_coloring_strategy(
         Answered outcome.report outcome.colors days.old result days.new colors.new }
 {
     match strategy_of(strategy) {
-        StrategyNumber::Known(known) => answer_coloring(
+        Some(known) => answer_count(
             wulgranite::greedy_node_color_with_coloring_strategy(n, ends, presets, known, colors),
             days,
         ),
-        StrategyNumber::Unknown => {
+        None => {
             let checked = greedy::check_nodes(n, ends, presets.len(), colors.len());
             unknown_strategy(checked)
         }
@@ -113,7 +110,7 @@ pub extern "C" fn wg_greedy_edge_color(
         let outcome = greedy_edges_plain degree_colors n ends colors₀ in
         Answered outcome.report outcome.colors days.old result days.new colors.new }
 {
-    answer_coloring(wulgranite::greedy_edge_color(n, ends, colors), days)
+    answer_count(wulgranite::greedy_edge_color(n, ends, colors), days)
 }
 
 #[unsafe(no_mangle)]
@@ -130,11 +127,11 @@ pub extern "C" fn wg_greedy_edge_color_with_coloring_strategy(
         Answered outcome.report outcome.colors days.old result days.new colors.new }
 {
     match strategy_of(strategy) {
-        StrategyNumber::Known(known) => answer_coloring(
+        Some(known) => answer_count(
             wulgranite::greedy_edge_color_with_coloring_strategy(n, ends, presets, known, colors),
             days,
         ),
-        StrategyNumber::Unknown => {
+        None => {
             let checked = greedy::check_edges(n, ends, presets.len(), colors.len());
             unknown_strategy(checked)
         }
@@ -146,7 +143,7 @@ pub extern "C" fn wg_line_graph(n: usize, ends: &[u16], list: &mut [u16], pairs:
     ensures answered { let ends = ends.entry.now in let list₀ = list.old in let outcome = line_graph n ends list₀ in
         Answered outcome.report outcome.list pairs.old result pairs.new list.new }
 {
-    answer_line_list(wulgranite::line_graph(n, ends, list), pairs)
+    answer_count(wulgranite::line_graph(n, ends, list), pairs)
 }
 
 #[unsafe(no_mangle)]
@@ -159,7 +156,7 @@ pub extern "C" fn wg_misra_gries_edge_color(
     ensures answered { let ends = ends.entry.now in let colors₀ = colors.old in let outcome = misra_gries n ends colors₀ in
         Answered outcome.report outcome.colors days.old result days.new colors.new }
 {
-    answer_coloring(wulgranite::misra_gries_edge_color(n, ends, colors), days)
+    answer_count(wulgranite::misra_gries_edge_color(n, ends, colors), days)
 }
 
 #[unsafe(no_mangle)]
@@ -174,7 +171,7 @@ pub extern "C" fn wg_misra_gries_add_edge(
         let outcome = add_edge n ends stored colors₀ in
         Answered outcome.report outcome.colors days.old result days.new colors.new }
 {
-    answer_coloring(
+    answer_count(
         wulgranite::misra_gries_add_edge(n, ends, stored, colors),
         days,
     )
@@ -219,7 +216,7 @@ pub extern "C" fn wg_write_graph_file(
         let outcome = write_file n ends colors tags method output₀ in
         Answered outcome.report outcome.output length.old result length.new output.new }
 {
-    answer_writing(
+    answer_count(
         wulgranite::write_graph_file(n, ends, colors, tags, method, output),
         length,
     )

@@ -36,8 +36,7 @@ use Rattle.file_layout.specs.Reliance.{FileReader}
 use Rattle.file_layout.proofs.FileLaws.{read_laid, laid_out, read_bytes}
 use Rattle.file_layout.proofs.OutcomeLaws.{over_front}
 use Rattle.graph_file.specs.Report.{report_of_file}
-use Rattle.graph_file.specs.declared.FileAnswer.{FileAnswer}
-use Rattle.graph_file.specs.declared.FileAnswer.TheVariants as F
+use Rattle.file_fields.specs.declared.FileSummary.{FileSummary}
 use Rattle.matchday_text.specs.Put.{Put, Room}
 use Rattle.lists.proofs.PartsLaws.{take_replicate}
 use Rattle.std.specs.Prelude.{Result, Ok, Err}
@@ -187,11 +186,11 @@ printed : (bytes before after : List ℕ) (answer : ℕ) → answer ≡ length (
 printed bytes before after answer p q =
     (p, (q, record { graph_text = λ file l. let e = file_text_lem bytes file (read_laid bytes file l) in (p ∙ ap length e, q ∙ ap (λ (t : List ℕ). copied_over t before) e) }))
 
-module _ (bytes ends₀ colors₀ : List ℕ) (c : FileAnswer) (ends colors : List ℕ) (room : length ends₀ ≡ 8192) (places : length colors₀ ≡ 4096)
+module _ (bytes ends₀ colors₀ : List ℕ) (c : Result FileSummary Refusal) (ends colors : List ℕ) (room : length ends₀ ≡ 8192) (places : length colors₀ ≡ 4096)
     (reader : FileReader bytes ends₀ colors₀ (report_of_file c) ends colors) where
   -- ---- a refused reading
 
-  module _ (r : Refusal) (p : c ≡ F.Refused r) (x : ℕ) (q : x ≡ number r) (below : all_below 256 bytes ≡ true) where
+  module _ (r : Refusal) (p : c ≡ Err r) (x : ℕ) (q : x ≡ number r) (below : all_below 256 bytes ≡ true) where
     -- A file has no more colours than edges.
     colors_room : (file : File) → WellFormed file → length file.colors ≤ 4096
     colors_room file w = elim w.others [
@@ -232,29 +231,29 @@ module _ (bytes ends₀ colors₀ : List ℕ) (c : FileAnswer) (ends colors : Li
 
   -- ---- a file that was read
 
-  module _ (n m tags method : ℕ) (p : c ≡ F.Accepted n m tags method) where
-    abbrev found : (file : File) × LaidOut bytes file × (summary file ≡ (n, m, tags, method)) × (ends ≡ over file.ends ends₀) × (colors ≡ over file.colors colors₀)
-    found = reader.laid (n, m, tags, method) (ap report_of_file p)
+  module _ (s : FileSummary) (p : c ≡ Ok s) where
+    abbrev found : (file : File) × LaidOut bytes file × (summary file ≡ (s.nodes, s.edges, s.tags, s.method)) × (ends ≡ over file.ends ends₀) × (colors ≡ over file.colors colors₀)
+    found = reader.laid (s.nodes, s.edges, s.tags, s.method) (ap report_of_file p)
 
-    edges_are : edge_count found.0.ends ≡ m
+    edges_are : edge_count found.0.ends ≡ s.edges
     unfolding summary
     edges_are = ap (λ (u : Summary). u.1) found.2
 
-    nodes_are : found.0.nodes ≡ n
+    nodes_are : found.0.nodes ≡ s.nodes
     unfolding summary
     nodes_are = ap (λ (u : Summary). u.0) found.2
 
-    pub read_edges : m ≤ 4096
+    pub read_edges : s.edges ≤ 4096
     read_edges = omega (arith, found.1.formed.edges, edges_are)
 
     -- The ends of the file are the first 2m numbers of the list.
-    read_ends : file_text bytes ≡ colored_text n (take (2 * m) ends)
+    read_ends : file_text bytes ≡ colored_text s.nodes (take (2 * s.edges) ends)
     read_ends =
-        let k : 2 * m ≡ length found.0.ends = omega (arith, found.1.formed.even, edges_are) in
-        let e : take (2 * m) ends ≡ found.0.ends = ap (take (2 * m)) found.3 ∙ over_front found.0.ends ends₀ (2 * m) k in
+        let k : 2 * s.edges ≡ length found.0.ends = omega (arith, found.1.formed.even, edges_are) in
+        let e : take (2 * s.edges) ends ≡ found.0.ends = ap (take (2 * s.edges)) found.3 ∙ over_front found.0.ends ends₀ (2 * s.edges) k in
         file_text_lem bytes found.0 (read_laid bytes found.0 found.1) ∙ ap₂ colored_text nodes_are (sym e)
 
-    pub read_text : (before after : List ℕ) (end : ℕ) → end ≡ length (colored_text n (take (2 * m) ends)) → after ≡ copied_over (colored_text n (take (2 * m) ends)) before → Printed bytes before end after
+    pub read_text : (before after : List ℕ) (end : ℕ) → end ≡ length (colored_text s.nodes (take (2 * s.edges) ends)) → after ≡ copied_over (colored_text s.nodes (take (2 * s.edges) ends)) before → Printed bytes before end after
     read_text before after end h k = printed bytes before after end (h ∙ ap length (sym read_ends)) (k ∙ ap (λ (t : List ℕ). copied_over t before) (sym read_ends))
 
 -- Laws of a call's text: one for each answer, and the places that are lent.

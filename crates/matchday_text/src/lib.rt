@@ -7,7 +7,7 @@ ghost use Rattle.vizing.specs.MisraGries.{misra_gries};
 ghost use Rattle.matchday_text.specs.Text.{outcome_text, colored_text, file_text, PassesOver};
 
 use graph::{Color, Graph};
-use graph_file::{FileAnswer, read_graph_file};
+use graph_file::read_graph_file;
 use lines::{put_days, put_refused};
 use misra_gries::misra_gries_edge_color;
 
@@ -60,15 +60,10 @@ pub fn matchday_text(bytes: &[u8], text: &mut [u8]) -> usize
     let mut ends = [0u16; Graph::ENTRIES];
     let mut saved = [Color::NONE; Graph::MAX_EDGES];
     match read_graph_file(bytes, &mut ends, &mut saved) {
-        FileAnswer::Refused(refusal) => put_refused(text, refusal.number() as usize),
-        FileAnswer::Accepted {
-            nodes,
-            edges,
-            tags: _,
-            method: _,
-        } => {
-            let count = 2 * edges;
-            graph_text(nodes, &ends[..count], text)
+        Err(refusal) => put_refused(text, refusal.number() as usize),
+        Ok(file) => {
+            let count = 2 * file.edges;
+            graph_text(file.nodes, &ends[..count], text)
         }
     }
 }

@@ -76,7 +76,7 @@ fn call_edge_walk(
     let entries = &mut entries[..e];
     lend(starts);
     lend(entries);
-    incidence::incidence(n, ends, starts, entries);
+    let _ = incidence::incidence(n, ends, starts, entries);
     let end = put_all(rt, text, waiting, b"edge_walk:");
     let node = NodeIndex(narrow(line.first));
     put_walk(rt, text, end, starts, entries, node, line.second)

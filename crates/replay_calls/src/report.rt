@@ -1,9 +1,8 @@
 // The answers of the calls as they are printed.
 use days::LeadingPart;
-use edge_walk::{WalkStep, edge_at};
+use edge_walk::edge_at;
+use file_fields::FileSummary;
 use graph::{NodeIndex, Refusal};
-use graph_file::FileAnswer;
-
 use replay_output::{put, put_all, put_list, put_number, put_report};
 
 fn put_refused(
@@ -81,11 +80,11 @@ pub(crate) fn put_walk(
     let mut at = place;
     loop {
         match edge_at(starts, entries, node, at) {
-            WalkStep::End => {
+            None => {
                 end = put_all(rt, text, end, b" end");
                 return put(rt, text, end, b'\n');
             }
-            WalkStep::Edge(edge, next) => {
+            Some((edge, next)) => {
                 end = put(rt, text, end, b' ');
                 end = put_number(rt, text, end, edge.0 as u64);
                 at = next;
@@ -130,24 +129,19 @@ pub(crate) fn put_file(
     rt: &impl Print,
     text: &mut [u8],
     waiting: usize,
-    answer: FileAnswer,
+    answer: Result<FileSummary, Refusal>,
 ) -> usize {
     match answer {
-        FileAnswer::Accepted {
-            nodes,
-            edges,
-            tags,
-            method,
-        } => put_read(
+        Ok(file) => put_read(
             rt,
             text,
             waiting,
-            nodes as u64,
-            edges as u64,
-            tags as u64,
-            method as u64,
+            file.nodes as u64,
+            file.edges as u64,
+            file.tags as u64,
+            file.method as u64,
         ),
-        FileAnswer::Refused(refusal) => put_refused(rt, text, waiting, b"read_graph_file", refusal),
+        Err(refusal) => put_refused(rt, text, waiting, b"read_graph_file", refusal),
     }
 }
 

@@ -9,9 +9,9 @@
 
 pub use days::fewer_days;
 pub use edge_walk::{EdgeWalk, edge_at, edges_at, far_end};
-pub use file_fields::Method;
+pub use file_fields::{FileSummary, Method};
 pub use graph::{Color, EdgeIndex, Graph, NodeIndex, Refusal, check_graph};
-pub use graph_file::{FileAnswer, read_graph_file};
+pub use graph_file::read_graph_file;
 pub use greedy::ColoringStrategy;
 pub use greedy_color::{
     greedy_edge_color, greedy_edge_color_with_coloring_strategy, greedy_node_color,

@@ -4,9 +4,9 @@ use Rattle.greedy.specs.Call.{check_edges}
 use Rattle.capi.proofs.StrategyLaws.{known_answered, unknown_answered}
 use Rattle.capi.proofs.wg_greedy_edge_color_with_coloring_strategy.Goals as goal
 
-pub returns-in-Known : goal.returns-in-Known
-returns-in-Known c = search (rules, known_answered)
+pub returns-in-Some : goal.returns-in-Some
+returns-in-Some c = search (rules, known_answered)
 
-pub returns-in-Unknown : goal.returns-in-Unknown
+pub returns-in-None : goal.returns-in-None
 unfolding check_edges
-returns-in-Unknown c = search (rules, unknown_answered)
+returns-in-None c = search (rules, unknown_answered)

@@ -17,19 +17,19 @@ bytes_below : (bytes : List ℕ) → ((i : ℕ) → Fits w8 (get_or bytes i 0)) 
 bytes_below bytes fits = below_all 256 bytes (λ i h. omega (arith, fits i))
 
 pub put_refused-requires : goal.put_refused-requires
-put_refused-requires c = unread_room _ _ _ _ _ _ refl refl c.read_graph_file.ensures.layout _ c.in-Refused.is _ c.number.ensures.answer (bytes_below _ c.type_inv.bytes)
+put_refused-requires c = unread_room _ _ _ _ _ _ refl refl c.read_graph_file.ensures.layout _ c.in-Err.is _ c.number.ensures.answer (bytes_below _ c.type_inv.bytes)
 
 pub overflow_mul-count : goal.overflow_mul-count
-overflow_mul-count c = omega (arith, read_edges _ _ _ _ _ _ refl refl c.read_graph_file.ensures.layout _ _ _ _ c.in-Accepted.is)
+overflow_mul-count c = omega (arith, read_edges _ _ _ _ _ _ refl refl c.read_graph_file.ensures.layout _ c.in-Ok.is)
 
 pub slice_bounds-ends-end : goal.slice_bounds-ends-end
-slice_bounds-ends-end c = omega (arith, read_edges _ _ _ _ _ _ refl refl c.read_graph_file.ensures.layout _ _ _ _ c.in-Accepted.is)
+slice_bounds-ends-end c = omega (arith, read_edges _ _ _ _ _ _ refl refl c.read_graph_file.ensures.layout _ c.in-Ok.is)
 
 pub slice_bounds-graph_text-end : goal.slice_bounds-graph_text-end
-slice_bounds-graph_text-end c = sym (length-take-le _ _ (omega (arith, c.read_graph_file.auto.ends, read_edges _ _ _ _ _ _ refl refl c.read_graph_file.ensures.layout _ _ _ _ c.in-Accepted.is)))
+slice_bounds-graph_text-end c = sym (length-take-le _ _ (omega (arith, c.read_graph_file.auto.ends, read_edges _ _ _ _ _ _ refl refl c.read_graph_file.ensures.layout _ c.in-Ok.is)))
 
-pub returns-in-Refused : goal.returns-in-Refused
-returns-in-Refused c = let all_parts = unread_text _ _ _ _ _ _ refl refl c.read_graph_file.ensures.layout _ c.in-Refused.is _ c.number.ensures.answer (bytes_below _ c.type_inv.bytes) _ _ _ c.put_refused.ensures.put in record { answer = all_parts.0; text = all_parts.1.0; passes_over = all_parts.1.1 }
+pub returns-in-Err : goal.returns-in-Err
+returns-in-Err c = let all_parts = unread_text _ _ _ _ _ _ refl refl c.read_graph_file.ensures.layout _ c.in-Err.is _ c.number.ensures.answer (bytes_below _ c.type_inv.bytes) _ _ _ c.put_refused.ensures.put in record { answer = all_parts.0; text = all_parts.1.0; passes_over = all_parts.1.1 }
 
-pub returns-in-Accepted : goal.returns-in-Accepted
-returns-in-Accepted c = let all_parts = read_text _ _ _ _ _ _ refl refl c.read_graph_file.ensures.layout _ _ _ _ c.in-Accepted.is _ _ _ c.graph_text.ensures.answer c.graph_text.ensures.text in record { answer = all_parts.0; text = all_parts.1.0; passes_over = all_parts.1.1 }
+pub returns-in-Ok : goal.returns-in-Ok
+returns-in-Ok c = let all_parts = read_text _ _ _ _ _ _ refl refl c.read_graph_file.ensures.layout _ c.in-Ok.is _ _ _ c.graph_text.ensures.answer c.graph_text.ensures.text in record { answer = all_parts.0; text = all_parts.1.0; passes_over = all_parts.1.1 }

@@ -5,5 +5,5 @@ use Rattle.replay_calls.proofs.report.put_walk.Goals as goal
 
 pub loop-text-smaller : goal.loop-text-smaller
 loop-text-smaller g c =
-    let edge = step_edge _ _ _ _ _ c.edge_at.ensures.answer c.in-Edge.is in
+    let edge = step_edge _ _ _ _ _ c.edge_at.ensures.answer c.in-Some.is in
     omega arith
