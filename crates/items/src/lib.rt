@@ -7,11 +7,14 @@ ghost use Rattle.graph.specs.Report.{report_of_checked};
 ghost use Rattle.greedy.specs.Call.{check_items};
 ghost use Rattle.items.specs.Items.{items_of, first_node, second_node, across_of, count_at, neighbor_count, free_color};
 
+mod table;
+
 use edge_walk::{edges_at, end_at, far_end};
 use graph::{Color, EdgeIndex, Graph, NodeIndex, Refusal};
 use greedy::{check_edges, check_nodes};
 use line_graph::{edge_of_node, node_of_edge};
 use smallest_color::{smallest_color, smallest_edge_color};
+pub use table::Items;
 
 // Which items are coloured.
 #[derive(Clone, Copy)]
