@@ -1,28 +1,19 @@
 -- Laws of the edge table's definitions: entries, and the search for an empty place.
 use Prim.Native.Nat.{ℕ, zero, suc, ◌+◌, ◌*◌, ◌-◌, ◌≤◌, ◌<◌}
-use mathlib.Core.List.{List, [], ◌∷◌}
+use mathlib.Core.List.{List}
 use mathlib.Core.Option.{none, some}
 use mathlib.Core.Bool.{Bool, true, false}
-use lib.ListN.{get_or, length, get_or-eq_default}
+use lib.ListN.{get_or}
 use lib.Dec.{eqb}
 use mathlib.Core.Path.{◌≡◌, refl, sym, ap, ◌∙◌}
 use mathlib.Core.Logic.{inl, inr, ◌≢◌}
 use native.Mathlib.Omega.{arith}
-use native.Mathlib.Decide.{dec_lt}
 use native.Mathlib.Nat.{not-suc-le-zero}
 use native.Mathlib.Numerals.{add-one}
 use borrow.Author.Tests.{eq-eqb, ne_eqb, lt-ltb, le-ltb}
 use Rattle.vizing.specs.MisraGries.{is_none}
 use Rattle.lists.proofs.Tests.{dec_eq}
 use Rattle.edge_table.specs.EdgeTable.{no_edge, edge_of_entry, entry_at, table_edge, is_empty, empty_from, smallest_empty}
-
--- ---- lists
-
--- A place inside a list reads the same with any default.
-get_or_inside : (l : List ℕ) (i d e : ℕ) → i < length l → get_or l i d ≡ get_or l i e
-get_or_inside [] i d e h = absurd (not-suc-le-zero h)
-get_or_inside (x ∷ l) zero d e h = refl
-get_or_inside (x ∷ l) (suc i) d e h = get_or_inside l i d e (omega arith)
 
 -- ---- entries and edges
 
@@ -43,15 +34,6 @@ entry_place T v c h = simp (lt-ltb _ _ h)
 pub no_place : (T : List ℕ) (v c : ℕ) → 512 ≤ v → no_edge ≡ entry_at T v c
 unfolding entry_at
 no_place T v c h = simp (le-ltb _ _ h)
-
-pub past_end : (T : List ℕ) (v c : ℕ) → length T ≤ c * 512 + v → no_edge ≡ entry_at T v c
-past_end T v c h = elim (dec_lt v 512) [
-  | yes b ↦ sym (entry_place T v c b ∙ get_or-eq_default T no_edge h)
-  | no b ↦ no_place T v c (omega arith)
-]
-
-pub entry_read : (T : List ℕ) (v c : ℕ) → v < 512 → c * 512 + v < length T → get_or T (c * 512 + v) 0 ≡ entry_at T v c
-entry_read T v c b h = get_or_inside T (c * 512 + v) 0 no_edge h ∙ sym (entry_place T v c b)
 
 -- The answers, by the entry that was read.
 module _ (T : List ℕ) (v c x : ℕ) (read : x ≡ entry_at T v c) where

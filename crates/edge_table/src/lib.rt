@@ -20,9 +20,9 @@ impl EdgeTable {
 }
 
 // What a place of the table holds: an edge's number, or none.
-#[derive(Clone, Copy)]
+#[derive(Clone, Copy, PartialEq, Eq, Debug)]
 pub struct Entry(pub u16);
 
 impl Entry {
-    pub const NONE: u16 = 65535;
+    pub const NONE: Self = Entry(65535);
 }
