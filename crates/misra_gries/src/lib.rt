@@ -41,7 +41,7 @@ fn color_from(
     ensures colors { colors.new ≡ (from_stored n ends.now stored.now colors.old).colors }
 {
     let mut work = [Color::NONE; Graph::MAX_EDGES];
-    let mut table = [Entry::NONE; EdgeTable::PLACES];
+    let mut table = [Entry::NONE.0; EdgeTable::PLACES];
     let limit = max_degree(n as u16, starts, entries);
     if !color_stored(ends, stored, limit, &mut work, &mut table) {
         return Err(Refusal::BadStoredColors);

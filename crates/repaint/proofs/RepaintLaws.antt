@@ -1,5 +1,5 @@
 -- The edge table stays the table of the working list: at the start, when an edge loses or takes a colour, and when edges take new colours in place of their own.
-use Prim.Native.Nat.{ℕ, ◌+◌, ◌*◌, ◌≤◌, ◌<◌, zero, suc}
+use Prim.Native.Nat.{ℕ, ◌+◌, ◌*◌, ◌≤◌, ◌<◌, zero, suc, min}
 use mathlib.Core.Path.{◌≡◌, refl, sym, ap, subst, ◌∙◌}
 use mathlib.Core.Logic.{◌≢◌, ◌⊎◌, inl, inr}
 use mathlib.Core.List.{List, [], ◌∷◌, map}
@@ -180,29 +180,27 @@ entry_elsewhere ends T k c x v a n =
 
 -- ---- one edge after the other, as the code goes on with it
 
-pub uncolor_next : (ends : List ℕ) (s s' : State) (ks : List ℕ) (i : ℕ) (r : State) → all_uncolored ends s (drop i ks) ≡ r → i < length ks
-    → s' ≡ uncolored ends s (get_or ks i 0) → all_uncolored ends s' (drop (i + 1) ks) ≡ r
+pub uncolor_next : (ends : List ℕ) (s : State) (ks : List ℕ) (i : ℕ) → i < length ks
+    → all_uncolored ends s (drop i ks) ≡ all_uncolored ends (uncolored ends s (get_or ks i 0)) (drop (i + 1) ks)
 unfolding all_uncolored
-uncolor_next ends s s' ks i r e h p = rw (add-one i, p) (rw (drop-cons ks i 0 h) at e)
+uncolor_next ends s ks i h = rw (drop-cons ks i 0 h, add-one i, all_uncolored)
 
-pub uncolor_end : (ends : List ℕ) (s : State) (ks : List ℕ) (i : ℕ) (r : State) → all_uncolored ends s (drop i ks) ≡ r → length ks ≤ i → s ≡ r
+pub uncolor_end : (ends : List ℕ) (s : State) (ks : List ℕ) (i : ℕ) → length ks ≤ i → all_uncolored ends s (drop i ks) ≡ s
 unfolding all_uncolored
-uncolor_end ends s ks i r e h = rw (drop_of_length-le ks {i = i} h) at e
+uncolor_end ends s ks i h = rw (drop_of_length-le ks {i = i} h)
 
-module _ (ends : List ℕ) (s : State) (ks cs : List ℕ) (i : ℕ) (r : State) (e : all_colored ends s (drop i ks) (drop i cs) ≡ r) where
-  pub color_next : (s' : State) → i < length ks → i < length cs → s' ≡ colored ends s (get_or ks i 0) (get_or cs i 0)
-      → all_colored ends s' (drop (i + 1) ks) (drop (i + 1) cs) ≡ r
-  unfolding all_colored
-  color_next s' h b p = rw (add-one i, p) (rw (drop-cons ks i 0 h, drop-cons cs i 0 b) at e)
+pub color_next : (ends : List ℕ) (s : State) (ks cs : List ℕ) (i : ℕ) → i < length ks → i < length cs
+    → all_colored ends s (drop i ks) (drop i cs) ≡ all_colored ends (colored ends s (get_or ks i 0) (get_or cs i 0)) (drop (i + 1) ks) (drop (i + 1) cs)
+unfolding all_colored
+color_next ends s ks cs i h b = rw (drop-cons ks i 0 h, drop-cons cs i 0 b, add-one i, all_colored)
 
-  pub color_end : length ks ≤ i → s ≡ r
-  unfolding all_colored
-  color_end h = rw (drop_of_length-le ks {i = i} h) at e
-
-  -- The colours are used up.
-  pub color_short : i < length ks → length cs ≤ i → s ≡ r
-  unfolding all_colored
-  color_short h b = rw (drop-cons ks i 0 h, drop_of_length-le cs {i = i} b) at e
+-- The edges or the colours are used up.
+pub color_end : (ends : List ℕ) (s : State) (ks cs : List ℕ) (i : ℕ) → i ≡ min (length ks) (length cs) → all_colored ends s (drop i ks) (drop i cs) ≡ s
+unfolding all_colored
+color_end ends s ks cs i e = elim (dec_lt i (length ks)) [
+  | yes h ↦ rw (drop-cons ks i 0 h, drop_of_length-le cs {i = i} (omega arith))
+  | no h ↦ rw (drop_of_length-le ks {i = i} (omega arith))
+]
 
 -- ---- what each function leaves, by what its calls left
 

@@ -1,14 +1,8 @@
--- `uncolor_all` meets its contract. The invariant: the edges from i on, uncoloured from here, leave what all leave from the start.
--- The measure: the edges still to be uncoloured, length edges - i; each turn uncolours one.
-use Prim.Native.Nat.{◌≤◌, ◌-◌}
+-- `uncolor_all` meets its contract. The invariant: the edges that are left, uncoloured from here, leave what all leave from the start.
 use mathlib.Core.Path.{◌≡◌}
-use lib.ListN.{length, drop}
+use lib.ListN.{drop}
 use Rattle.repaint.specs.Repaint.{state, all_uncolored}
 use Rattle.repaint.proofs.uncolor_all.Given as goal
 
-abbrev pub invariant-loop-i : goal.invariant-loop-i
-invariant-loop-i l = (l.i ≤ length l.edges) × (length l.work ≡ length l.initial.work) × (length l.table ≡ length l.initial.table)
-    × (all_uncolored l.ends (state l.work l.table) (drop l.i l.edges) ≡ all_uncolored l.ends (state l.initial.work l.initial.table) l.edges)
-
-abbrev pub decreases-loop-i : goal.decreases-loop-i
-decreases-loop-i l = length l.edges - l.i
+abbrev pub invariant-loop-edge : goal.invariant-loop-edge
+invariant-loop-edge l = all_uncolored l.ends (state l.work l.table) (drop l.edge-index l.edges) ≡ all_uncolored l.ends (state l.initial.work l.initial.table) l.edges
