@@ -148,16 +148,13 @@ module _ (n : ℕ) (ends stored : List ℕ) (a : Admitted n ends) (few : length 
     yes : r.all ≡ true → Filled n ends stored (length stored) r.state
     no : r.all ≡ false → ProperlyStored n ends stored → ⊥
 
-  filled_all : (fuel k : ℕ) (s : State) → Filled n ends stored k s → fuel + k ≡ length stored → (r : Stored) → stored_from ends D s k (drop k stored) ≡ r → Decided r
-  filled_all zero k s F e r q =
-      let t = stored_end ends stored D s k r q (omega arith) in
+  filled_all : (fuel k : ℕ) (s : State) → Filled n ends stored k s → fuel + k ≡ length stored → Decided (stored_from ends D s k (drop k stored))
+  filled_all zero k s F e =
       let p : k ≡ length stored = omega arith in
-      record { yes = λ y. rw (← t.1, ← p) F; no = λ y. absurd (true≢false (t.0 ∙ y)) }
-  filled_all (suc fuel) k s F e r q = by-test (may_take ends s.table k (get_or stored k 0) D)
-      (λ t. filled_all fuel (suc k) (colored ends s k (get_or stored k 0)) (filled_next k s F (omega arith) t) (omega arith) r
-      (rw (add-one k) at (stored_next ends stored D s k r q (omega arith) (may_take ends s.table k (get_or stored k 0) D) refl (ap not t) (colored ends s k (get_or stored k 0)) refl)))
-      (λ t. let z = stored_stop ends stored D s k r q (omega arith) (may_take ends s.table k (get_or stored k 0) D) refl (ap not t) in
-      record { yes = λ y. absurd (true≢false (sym y ∙ sym z.0)); no = λ y. filled_stop k s F (omega arith) t })
+      rw (stored_end ends stored D s k (omega arith)) (record { yes = λ y. rw (← p) F; no = λ y. absurd (true≢false y) })
+  filled_all (suc fuel) k s F e = by-test (may_take ends s.table k (get_or stored k 0) D)
+      (λ t. rw (stored_next ends stored D s k (omega arith) t, add-one k) (filled_all fuel (suc k) (colored ends s k (get_or stored k 0)) (filled_next k s F (omega arith) t) (omega arith)))
+      (λ t. rw (stored_stop ends stored D s k (omega arith) t) (record { yes = λ y. absurd (true≢false (sym y)); no = λ y. filled_stop k s F (omega arith) t }))
 
   -- `color_stored` from an empty working list and an empty table of N places, with D: what it answers and leaves.
   module _ (limit : ℕ) (d : limit ≡ D) (N : ℕ) (size : N ≡ 294912) (b : Bool) (work table : List ℕ)
@@ -170,8 +167,7 @@ module _ (n : ℕ) (ends stored : List ℕ) (a : Admitted n ends) (few : length 
     filled_start = record { list = sym (stored_front stored 0 (omega arith)); tabled = admitted_table n ends a N size; range = λ j h. let z : ⊥ = omega arith in absurd z }
 
     decided : Decided (color_stored ends stored limit start)
-    decided = filled_all (length stored) 0 start filled_start (omega arith) (color_stored ends stored limit start)
-        (ap (λ (i : ℕ). stored_from ends i start 0 (drop 0 stored)) (sym d) ∙ stored_start ends stored limit start (omega (arith, a.edges)))
+    decided = rw (stored_start ends stored limit start (omega (arith, a.edges)), d) (filled_all (length stored) 0 start filled_start (omega arith))
 
     pub stored_yes : b ≡ true → ProperlyStored n ends stored × (work ≡ stored_list stored) × TableOf ends (edge_count ends) work table
     stored_yes y =

@@ -1,12 +1,7 @@
 -- `max_degree` meets its contract. The invariant: the longest stretch of the first v nodes.
--- The measure: the nodes still to be asked, n - v; each turn asks one.
-use Prim.Native.Nat.{◌≤◌, ◌-◌}
 use mathlib.Core.Path.{◌≡◌}
 use Rattle.stored_colors.specs.Stored.{longest_stretch}
 use Rattle.stored_colors.proofs.max_degree.Given as goal
 
 abbrev pub invariant-loop-v : goal.invariant-loop-v
-invariant-loop-v l = (l.v ≤ l.n) × (l.most ≡ longest_stretch l.starts l.entries l.v)
-
-abbrev pub decreases-loop-v : goal.decreases-loop-v
-decreases-loop-v l = l.n - l.v
+invariant-loop-v l = l.most ≡ longest_stretch l.starts l.entries l.v
