@@ -7,16 +7,14 @@ use native.Mathlib.Omega.{arith}
 use lib.Dec.{ltb}
 use lib.ListN.{length}
 use borrow.Author.Tests.{lt-ltb, le-ltb}
-use Rattle.graph.specs.Report.{accepted, refused, number, report_of_checked}
+use Rattle.graph.specs.Report.{accepted, refused}
 use Rattle.graph.specs.Check.{◌gives◌, first_refusal, graph_checks, check_graph, Passed}
-use Rattle.graph.proofs.CheckLaws.{passed, passes, refused_first, passed_first, first_refuses, first_passes, all_passed, answered_refused, answered_accepted, written_refused, written_accepted, graph_refused, graph_accepted}
+use Rattle.graph.proofs.CheckLaws.{passes, refused_first, passed_first, first_refuses, first_passes, all_passed, answered_refused, answered_accepted, written_refused, written_accepted}
 use Rattle.graph.specs.Edges.{edge_count, degree}
 use Rattle.graph.specs.Stretch.{stretch, Table}
 use Rattle.graph.specs.Table.{over}
 use Rattle.graph.proofs.NeighborLaws.{degree_bound}
-use Rattle.graph.specs.declared.Refusal.{Refusal}
-use Rattle.graph.specs.declared.Graph.{Graph}
-use Rattle.std.specs.Prelude.{Result, Ok, Err}
+use Rattle.graph.proofs.CheckedLaws.{refused_by_graph}
 use Rattle.line_list.specs.LineList.{line_pairs, line_checks, line_graph}
 use Rattle.line_graph.specs.WrittenPairs.{pairs_below}
 use Rattle.line_graph.proofs.WrittenPairsLaws.{table_pairs}
@@ -31,12 +29,9 @@ module _ (n : ℕ) (ends lent : List ℕ) where
   unfolding line_graph
   refuses k e = (answered_refused _ k _ e, written_refused _ k _ _ e)
 
-  pub line_refused : (c : Result Graph Refusal) (r : Refusal) → report_of_checked c ≡ check_graph n ends → c ≡ Err r → (refused (number r) ≡ (line_graph n ends lent).report) × (lent ≡ (line_graph n ends lent).list)
+  pub line_refused : (k : ℕ) → refused k ≡ check_graph n ends → (refused k ≡ (line_graph n ends lent).report) × (lent ≡ (line_graph n ends lent).list)
   unfolding line_checks
-  line_refused c r e p = refuses (number r) (refused_first (graph_checks n ends) _ (number r) (graph_refused n ends c r e p))
-
-  pub line_passed : (c : Result Graph Refusal) (g : Graph) → report_of_checked c ≡ check_graph n ends → c ≡ Ok g → Passed n ends
-  line_passed c g e p = passed n ends (graph_accepted n ends c g e p).0
+  line_refused k e = refuses k (refused_first (graph_checks n ends) _ k (refused_by_graph n ends k e))
 
   module _ (p : Passed n ends) (starts entries : List ℕ) (table : Table ends n starts entries) (total : ℕ) (e : total ≡ length (pairs_below starts entries n)) where
     same : pairs_below starts entries n ≡ line_pairs ends (edge_count ends) n

@@ -2,14 +2,12 @@
 #![tactic(auto)]
 
 ghost use Rattle.std.specs.Prelude.{◌≡◌, ◌≤◌, ◌<◌, length};
-ghost use Rattle.graph.specs.Check.{Passed};
-ghost use Rattle.graph.specs.Stretch.{Table};
 ghost use Rattle.graph.specs.Report.{report_of};
-ghost use Rattle.line_graph.specs.WrittenPairs.{pairs_below};
 ghost use Rattle.line_list.specs.LineList.{line_graph};
 
-use graph::{EdgeIndex, Graph, NodeIndex, Refusal, check_graph};
-use incidence::incidence_front;
+use edge_walk::IncidenceTable;
+use graph::{CheckedGraph, EdgeIndex, Graph, NodeIndex, Refusal};
+use incidence::incidence_table;
 
 mod pairs;
 
@@ -28,78 +26,44 @@ pub fn edge_of_node(node: NodeIndex) -> EdgeIndex
     EdgeIndex(node.0)
 }
 
-// The table of a graph that passed the checks, and how many numbers its list has.
-fn make_table(n: usize, ends: &[u16], starts: &mut [u16], entries: &mut [u16]) -> usize
-    requires passed { Passed n ends.now }
-    requires n_in_bounds { (n < length starts.old) × (length ends.now ≤ length entries.old) }
-    ensures table { Table ends.now n starts.new entries.new }
-    ensures answer { result ≡ length (pairs_below starts.new entries.new n) }
+// The pairs, by the table. The list's length is known before anything is written, so a list that is too short stays as lent.
+fn list_by_table(table: IncidenceTable<'_>, list: &mut [u16]) -> Result<usize, Refusal>
+    ensures report { let table = table.entry in let list = list.entry.now in report_of result ≡ (line_graph table.nodes table.ends.now list).report }
+    ensures list { let table = table.entry in let list₀ = list.old in list.new ≡ (line_graph table.nodes table.ends.now list₀).list }
 {
-    incidence_front(n, ends, starts, entries);
-    pairs::list_length(n, starts, entries)
-}
-
-// The pairs, by the table. The list's length is known before anything is written, so a list that is too short stays as lent. The ends are
-// what the table is of; nothing reads them here.
-fn list_by_table(
-    n: usize,
-    ends: &[u16],
-    starts: &[u16],
-    entries: &[u16],
-    total: usize,
-    list: &mut [u16],
-) -> Result<usize, Refusal>
-    requires passed { Passed n ends.now }
-    requires table { Table ends.now n starts.now entries.now }
-    requires total_value { total ≡ length (pairs_below starts.now entries.now n) }
-    ensures report { let ends = ends.entry.now in let list = list.entry.now in report_of result ≡ (line_graph n ends list).report }
-    ensures list { let ends = ends.entry.now in let list₀ = list.old in list.new ≡ (line_graph n ends list₀).list }
-{
+    let total = pairs::list_length(table);
     if list.len() < total {
         return Err(Refusal::ShortList);
     }
-    pairs::write_pairs(n, starts, entries, list);
+    pairs::write_pairs(table, list);
     Ok(total / 2)
 }
 
-// A small graph, which needs short arrays only.
-fn list_small(n: usize, ends: &[u16], list: &mut [u16]) -> Result<usize, Refusal>
-    requires passed { Passed n ends.now }
-    requires n_bound { (n ≤ 64) × (length ends.now ≤ 512) }
-    ensures report { let ends = ends.entry.now in let list = list.entry.now in report_of result ≡ (line_graph n ends list).report }
-    ensures list { let ends = ends.entry.now in let list₀ = list.old in list.new ≡ (line_graph n ends list₀).list }
+// The same, with the table in arrays of these lengths.
+fn list_in<const STARTS: usize, const ENTRIES: usize>(
+    graph: CheckedGraph<'_>,
+    list: &mut [u16],
+) -> Result<usize, Refusal>
+    requires room { (graph.nodes < STARTS) × (length graph.ends.now ≤ ENTRIES) }
+    requires limits { (STARTS ≤ 513) × (ENTRIES ≤ 8192) }
+    ensures report { let graph = graph.entry in let list = list.entry.now in report_of result ≡ (line_graph graph.nodes graph.ends.now list).report }
+    ensures list { let graph = graph.entry in let list₀ = list.old in list.new ≡ (line_graph graph.nodes graph.ends.now list₀).list }
 {
-    let mut starts = [0u16; Graph::SMALL_STARTS];
-    let mut entries = [0u16; Graph::SMALL_ENTRIES];
-    let total = make_table(n, ends, &mut starts, &mut entries);
-    list_by_table(n, ends, &starts, &entries, total, list)
-}
-
-// Any graph, in arrays as long as the limits ask.
-fn list_large(n: usize, ends: &[u16], list: &mut [u16]) -> Result<usize, Refusal>
-    requires { Passed n ends.now }
-    ensures report { let ends = ends.entry.now in let list = list.entry.now in report_of result ≡ (line_graph n ends list).report }
-    ensures list { let ends = ends.entry.now in let list₀ = list.old in list.new ≡ (line_graph n ends list₀).list }
-{
-    let mut starts = [0u16; Graph::STARTS];
-    let mut entries = [0u16; Graph::ENTRIES];
-    let total = make_table(n, ends, &mut starts, &mut entries);
-    list_by_table(n, ends, &starts, &entries, total, list)
+    let mut starts = [0u16; STARTS];
+    let mut entries = [0u16; ENTRIES];
+    let table = incidence_table(graph, &mut starts, &mut entries);
+    list_by_table(table, list)
 }
 
 // Short arrays where they suffice: clearing the others costs more than a small graph's pairs.
-fn list_pairs(n: usize, ends: &[u16], list: &mut [u16]) -> Result<usize, Refusal>
-    requires { Passed n ends.now }
-    ensures report { let ends = ends.entry.now in let list = list.entry.now in report_of result ≡ (line_graph n ends list).report }
-    ensures list { let ends = ends.entry.now in let list₀ = list.old in list.new ≡ (line_graph n ends list₀).list }
+fn list_pairs(graph: CheckedGraph<'_>, list: &mut [u16]) -> Result<usize, Refusal>
+    ensures report { let graph = graph.entry in let list = list.entry.now in report_of result ≡ (line_graph graph.nodes graph.ends.now list).report }
+    ensures list { let graph = graph.entry in let list₀ = list.old in list.new ≡ (line_graph graph.nodes graph.ends.now list₀).list }
 {
-    if Graph::SMALL_NODES < n {
-        return list_large(n, ends, list);
+    if graph.nodes <= Graph::SMALL_NODES && graph.ends.len() <= Graph::SMALL_ENTRIES {
+        return list_in::<{ Graph::SMALL_STARTS }, { Graph::SMALL_ENTRIES }>(graph, list);
     }
-    if Graph::SMALL_ENTRIES < ends.len() {
-        return list_large(n, ends, list);
-    }
-    list_small(n, ends, list)
+    list_in::<{ Graph::STARTS }, { Graph::ENTRIES }>(graph, list)
 }
 
 // For nodes rising, each edge at the node is paired with those after it there; numbers beyond the pairs stay as lent.
@@ -107,6 +71,6 @@ pub fn line_graph(n: usize, ends: &[u16], list: &mut [u16]) -> Result<usize, Ref
     ensures report { let ends = ends.entry.now in let list = list.entry.now in report_of result ≡ (line_graph n ends list).report }
     ensures list { let ends = ends.entry.now in let list₀ = list.old in list.new ≡ (line_graph n ends list₀).list }
 {
-    check_graph(n, ends)?;
-    list_pairs(n, ends, list)
+    let graph = CheckedGraph::new(n, ends)?;
+    list_pairs(graph, list)
 }

@@ -5,21 +5,17 @@ ghost use Rattle.graph.specs.Table.{over};
 ghost use Rattle.line_list.specs.LineList.{pairs_with, pairs_of};
 ghost use Rattle.line_graph.specs.WrittenPairs.{placed, pairs_below};
 
-use edge_walk::edges_at;
+use edge_walk::IncidenceTable;
 use graph::{EdgeIndex, NodeIndex};
 
 // The length of the whole list, from the degrees: d edges at a node have d * (d - 1) / 2 pairs.
-pub(crate) fn list_length(n: usize, starts: &[u16], entries: &[u16]) -> usize
-    requires n_bound { n ≤ 512 }
-    requires by_index { (v : ℕ) → v < n → length (stretch starts.now entries.now v) ≤ 4096 }
-    ensures answer { let starts = starts.entry.now in let entries = entries.entry.now in result ≡ length (pairs_below starts entries n) }
+pub(crate) fn list_length(table: IncidenceTable<'_>) -> usize
+    ensures answer { let table = table.entry in result ≡ length (pairs_below table.starts.now table.entries.now table.nodes) }
 {
     let mut total = 0;
-    let mut v = 0;
-    while v < n {
-        let degree = edges_at(starts, entries, NodeIndex(v as u16)).len();
+    for v in 0..table.nodes {
+        let degree = table.edges_at(NodeIndex(v as u16)).len();
         total += degree * degree - degree;
-        v += 1;
     }
     total
 }
@@ -31,14 +27,12 @@ fn write_pairs_with(edge: EdgeIndex, later: &[u16], list: &mut [u16], at: usize)
     ensures list { let list₀ = list.old in let later = later.entry.now in
         list.new ≡ placed list₀ at (pairs_with edge.0 later) }
 {
-    let mut i = 0;
-    while i < later.len() {
+    for (i, other) in later.iter().enumerate() {
         let first = edge.0;
-        let second = later[i];
+        let second = *other;
         let place = at + 2 * i;
         list[place] = first;
         list[place + 1] = second;
-        i += 1;
     }
     at + 2 * later.len()
 }
@@ -50,28 +44,21 @@ fn write_pairs_of(edges: &[u16], list: &mut [u16], at: usize) -> usize
     ensures list { let list₀ = list.old in let edges = edges.entry.now in list.new ≡ placed list₀ at (pairs_of edges) }
 {
     let mut place = at;
-    let mut i = 0;
-    while i < edges.len() {
-        let edge = EdgeIndex(edges[i]);
-        let next = i + 1;
-        place = write_pairs_with(edge, &edges[next..], list, place);
-        i = next;
+    for (i, edge) in edges.iter().enumerate() {
+        place = write_pairs_with(EdgeIndex(*edge), &edges[i + 1..], list, place);
     }
     place
 }
 
 // The pairs at the nodes below n, from the front of the list on.
-pub(crate) fn write_pairs(n: usize, starts: &[u16], entries: &[u16], list: &mut [u16])
-    requires n_bound { n ≤ 512 }
-    requires n_in_bounds { length (pairs_below starts.now entries.now n) ≤ length list.old }
-    ensures list { let starts = starts.entry.now in let entries = entries.entry.now in let list₀ = list.old in
-        list.new ≡ over (pairs_below starts entries n) list₀ }
+pub(crate) fn write_pairs(table: IncidenceTable<'_>, list: &mut [u16])
+    requires { length (pairs_below table.starts.now table.entries.now table.nodes) ≤ length list.old }
+    ensures list { let table = table.entry in let list₀ = list.old in
+        list.new ≡ over (pairs_below table.starts.now table.entries.now table.nodes) list₀ }
 {
     let mut place = 0;
-    let mut v = 0;
-    while v < n {
-        let edges = edges_at(starts, entries, NodeIndex(v as u16));
+    for v in 0..table.nodes {
+        let edges = table.edges_at(NodeIndex(v as u16));
         place = write_pairs_of(edges, list, place);
-        v += 1;
     }
 }
