@@ -6,31 +6,39 @@ use mathlib.Core.List.{List, []}
 use mathlib.Core.Bool.{Bool, true, false, not, ◌||◌, cond}
 use native.Mathlib.Omega.{arith}
 use lib.ListN.{length, take}
-use lib.Dec.{ltb}
+use lib.Dec.{eqb, ltb}
+use Rattle.std.specs.List.{list_any}
 use borrow.Author.Tests.{lt-ltb, le-ltb, ltb-true, ltb-false, not-true}
 use Rattle.lists.specs.Member.{elem}
 use Rattle.lists.proofs.Tests.{by-test, and_true, or_true, or_false}
 use Rattle.lists.proofs.MemberLaws.{elem_true, elem_false, not_mem_elem}
 use Rattle.graph.specs.Color.{no_color, days_of}
+use Rattle.days.proofs.CountLaws.{any_elem}
 use Rattle.days.proofs.DaysLaws.{days_none}
 use Rattle.days.specs.declared.LeadingPart.{LeadingPart}
 use Rattle.days.specs.FewerDays.{second_chosen, fewer_days, AllColored, FewestDays}
 
 -- ---- which list
 
-module _ (first second : List ℕ) (b : Bool) (e : b ≡ elem no_color second) where
+module _ (first second : List ℕ) (b : Bool) (e : b ≡ list_any (λ y. eqb y 65535) second) where
+  in_second : b ≡ elem no_color second
+  in_second = e ∙ any_elem no_color second
+
   pub second_none : b ≡ true → false ≡ second_chosen first second
   unfolding second_chosen
-  second_none t = simp (sym e ∙ t)
+  second_none t = simp (sym in_second ∙ t)
 
-  module _ (f : b ≡ false) (a : Bool) (d : a ≡ elem no_color first) where
-    pub first_none : a ≡ true → true ≡ second_chosen first second
+  module _ (f : b ≡ false) (a : Bool) (d : a ≡ list_any (λ y. eqb y 65535) first) where
+    in_first : a ≡ elem no_color first
+    in_first = d ∙ any_elem no_color first
+
+    pub first_none : a ≡ true → a ≡ second_chosen first second
     unfolding second_chosen
-    first_none t = simp (sym e ∙ f, sym d ∙ t)
+    first_none t = simp (sym in_second ∙ f, sym in_first ∙ t) t
 
     pub by_days : a ≡ false → (x y : ℕ) → x ≡ days_of second → y ≡ days_of first → ltb x y ≡ second_chosen first second
     unfolding second_chosen
-    by_days t x y p q = rw (p, q) (simp (sym e ∙ f, sym d ∙ t))
+    by_days t x y p q = rw (p, q) (simp (sym in_second ∙ f, sym in_first ∙ t))
 
 -- Of nothing the first is chosen.
 chosen_empty : second_chosen [] [] ≡ false
@@ -74,9 +82,6 @@ module _ (first second : List ℕ) (m : ℕ) (part : LeadingPart) (e : part ≡ 
 
   pub cut_inside : (part.length ≤ length first) × (part.length ≤ length second)
   cut_inside = rw e (part_inside first second m)
-
-  pub cut_empty : part.length ≡ 0 → Contents []
-  cut_empty z = rw (sym e) (simp z)
 
   pub cut_second : part.second ≡ true → Contents (take part.length second)
   cut_second t = rw (sym e) (simp t)

@@ -1,8 +1,8 @@
 // Days: how many different colours a list has, and which of two lists has fewer.
 #![tactic(auto)]
 
-ghost use Rattle.std.specs.Prelude.{◌≡◌, ◌≢◌, false, cond, ℕ, ◌+◌, ◌≤◌, ◌<◌, length, get_or, take, drop};
-ghost use Rattle.lists.specs.Member.{Mem, elem};
+ghost use Rattle.std.specs.Prelude.{◌≡◌, ◌≢◌, false, cond, ℕ, ◌+◌, ◌≤◌, ◌<◌, length, get_or, take, MatchOption, IfSome};
+ghost use Rattle.lists.specs.Member.{Mem};
 ghost use Rattle.lists.specs.Different.{different};
 ghost use Rattle.graph.specs.Color.{days_of, no_color};
 ghost use Rattle.days.specs.FewerDays.{second_chosen, fewer_days, FewestDays};
@@ -11,37 +11,32 @@ ghost use Rattle.days.specs.Within.{within};
 use graph::Color;
 
 // One more than the greatest colour: so many days at most. A choice without a branch, so that the compiler can take many at once.
-fn most_days(colors: &[u16]) -> usize
-    ensures most { let colors = colors.entry.now in (result ≤ no_color) × ((c : ℕ) → Mem c colors → c ≢ no_color → c < result) }
+fn most_days(colors: &[u16]) -> u16
+    ensures most { let colors = colors.entry.now in (c : ℕ) → Mem c colors → c ≢ no_color → c < result }
 {
     let mut days = 0;
-    let mut i = colors.len();
-    while 0 < i {
-        i -= 1;
-        let c = colors[i];
-        let day = if c == Color::NONE { 0 } else { c + 1 };
-        if days < day {
-            days = day;
-        }
+    for &color in colors {
+        let day = if color == Color::NONE { 0 } else { color + 1 };
+        days = days.max(day);
     }
-    days as usize
+    days
 }
 
-// The smallest number of the list that is not below `from`, 65,535 if there is none. Without a branch, as above.
-fn next_color(colors: &[u16], from: u16) -> u16
-    ensures next { let colors = colors.entry.now in (from ≤ result) × ((c : ℕ) → Mem c colors → from ≤ c → result ≤ c) }
+// The smallest colour from `from` on and below `most`. Without a branch, as above; the list is not read where no colour is between the two.
+fn next_color(colors: &[u16], from: u16, most: u16) -> Option<u16>
+    ensures next { let colors = colors.entry.now in
+        MatchOption result ((c : ℕ) → Mem c colors → from ≤ c → most ≤ c)
+        (λ next. (from ≤ next) × (next < most) × ((c : ℕ) → Mem c colors → from ≤ c → next ≤ c)) }
 {
-    let mut next = Color::NONE;
-    let mut i = colors.len();
-    while 0 < i {
-        i -= 1;
-        let c = colors[i];
-        let other = if c < from { Color::NONE } else { c };
-        if other < next {
-            next = other;
-        }
+    if most <= from {
+        return None;
     }
-    next
+    let mut next = most;
+    for &color in colors {
+        let other = if color < from { most } else { color };
+        next = next.min(other);
+    }
+    if next < most { Some(next) } else { None }
 }
 
 // How many different numbers the list has from `from` on, as far as there are marks: each counts where it sets its mark. Once all marks are
@@ -51,92 +46,43 @@ fn count_marked(colors: &[u16], from: u16, marks: &mut [bool]) -> usize
     ensures answer { let colors = colors.entry.now in let marks₀ = marks.old in result ≡ different (within from (from + length marks₀) colors) }
 {
     let mut days = 0;
-    let mut i = colors.len();
-    while 0 < i {
+    for &color in colors {
         if days == marks.len() {
             return days;
         }
-        i -= 1;
-        let c = colors[i];
-        if from <= c {
-            let place = (c - from) as usize;
-            if place < marks.len() {
-                if !marks[place] {
-                    marks[place] = true;
-                    days += 1;
-                }
+        if from <= color {
+            let place = (color - from) as usize;
+            if place < marks.len() && !marks[place] {
+                marks[place] = true;
+                days += 1;
             }
         }
     }
     days
 }
 
-// The colours below a bound of at most 64.
-fn count_few(colors: &[u16], most: usize) -> usize
-    requires { most ≤ 64 }
-    ensures answer { let colors = colors.entry.now in result ≡ different (within 0 most colors) }
-{
-    let mut marks = [false; 64];
-    count_marked(colors, 0, &mut marks[..most])
-}
-
-// Those below a bound of at most 4,096, as all colours of a graph without presets are.
-fn count_small(colors: &[u16], most: usize) -> usize
-    requires { most ≤ 4096 }
-    ensures answer { let colors = colors.entry.now in result ≡ different (within 0 most colors) }
-{
-    let mut marks = [false; 4096];
-    count_marked(colors, 0, &mut marks[..most])
-}
-
-// The colours of one window: `length` of them, from `from` on.
-fn count_window(colors: &[u16], from: u16, length: usize) -> usize
-    requires { length ≤ 32768 }
+// The colours of one window: `length` of them, from `from` on. The fewer MARKS, the less there is to clear.
+fn count_window<const MARKS: usize>(colors: &[u16], from: u16, length: usize) -> usize
+    requires { (length ≤ MARKS) × (MARKS ≤ 32768) }
     ensures answer { let colors = colors.entry.now in result ≡ different (within from (from + length) colors) }
 {
-    let mut marks = [false; 32768];
+    let mut marks = [false; MARKS];
     count_marked(colors, from, &mut marks[..length])
-}
-
-// How many of the colours that are left are counted next.
-fn window_length(count: usize) -> usize
-    ensures answer { (result ≤ 32768) × (result ≤ count) × (0 < count → 0 < result) }
-{
-    if count < 32768 { count } else { 32768 }
 }
 
 // Any colours below `most`, 32,768 at a time, each time from the next one that stands in the list: twice at most, and never more often than
 // there are different colours.
-fn count_many(colors: &[u16], most: usize) -> usize
-    requires { most ≤ no_color }
+fn count_many(colors: &[u16], most: u16) -> usize
     ensures answer { let colors = colors.entry.now in result ≡ different (within 0 most colors) }
 {
     let mut days = 0;
     let mut from = 0;
-    while from < most {
-        let start = next_color(colors, from as u16);
-        if most <= start as usize {
-            return days;
-        }
-        let length = window_length(most - start as usize);
-        days += count_window(colors, start, length);
-        from = start as usize + length;
+    while let Some(start) = next_color(colors, from, most) {
+        let length = (most - start).min(32768);
+        days += count_window::<32768>(colors, start, length as usize);
+        from = start + length;
     }
     days
-}
-
-// Whether a number stands in the list.
-fn contains(colors: &[u16], number: u16) -> bool
-    ensures answer { result ≡ elem number colors.now }
-{
-    let mut i = colors.len();
-    while 0 < i {
-        i -= 1;
-        if colors[i] == number {
-            return true;
-        }
-    }
-    false
 }
 
 // Without marks, for a short list: a number counts where it stands last.
@@ -144,39 +90,30 @@ fn count_searched(numbers: &[u16]) -> usize
     ensures answer { result ≡ different numbers.now }
 {
     let mut count = 0;
-    let mut i = numbers.len();
-    while 0 < i {
-        let behind = &numbers[i..];
-        i -= 1;
-        if !contains(behind, numbers[i]) {
+    for (i, number) in numbers.iter().enumerate() {
+        if !numbers[i + 1..].contains(number) {
             count += 1;
         }
     }
     count
 }
 
-// The large colours, those from 4,096 on, in their order, into the back of a list of at most 64 places: from which place on they stand there,
-// 65 if they are more than the list has places.
-fn copy_large(colors: &[u16], large: &mut [u16]) -> usize
-    requires { length large.old ≤ 64 }
-    ensures copied { let colors = colors.entry.now in (result ≤ 64 → drop result large.new ≡ within 4096 no_color colors) }
+// The large colours, those from 4,096 on, in their order, to the front of a list: how many they are, if it has a place for each.
+fn copy_large(colors: &[u16], large: &mut [u16]) -> Option<usize>
+    ensures copied { let colors = colors.entry.now in let large = large.new in
+        IfSome result (λ count. (count ≤ length large) × (take count large ≡ within 4096 no_color colors)) }
 {
-    let mut place = large.len();
-    let mut i = colors.len();
-    while 0 < i {
-        i -= 1;
-        let c = colors[i];
-        if 4096 <= c {
-            if c < Color::NONE {
-                if place == 0 {
-                    return 65;
-                }
-                place -= 1;
-                large[place] = c;
+    let mut copied = 0;
+    for &color in colors {
+        if (4096..Color::NONE).contains(&color) {
+            if copied == large.len() {
+                return None;
             }
+            large[copied] = color;
+            copied += 1;
         }
     }
-    place
+    Some(copied)
 }
 
 // How many different colours there are: 65,535 is none. Linear in the list, whatever its colours are. At most 4,096 marks are cleared where
@@ -186,15 +123,14 @@ pub fn days_of(colors: &[u16]) -> usize
 {
     let most = most_days(colors);
     if most <= 64 {
-        return count_few(colors, most);
+        return count_window::<64>(colors, 0, most as usize);
     }
     if most <= 4096 {
-        return count_small(colors, most);
+        return count_window::<4096>(colors, 0, most as usize);
     }
     let mut large = [0; 64];
-    let place = copy_large(colors, &mut large);
-    if place <= 64 {
-        return count_small(colors, 4096) + count_searched(&large[place..]);
+    if let Some(count) = copy_large(colors, &mut large) {
+        return count_window::<4096>(colors, 0, 4096) + count_searched(&large[..count]);
     }
     count_many(colors, most)
 }
@@ -203,13 +139,10 @@ pub fn days_of(colors: &[u16]) -> usize
 fn second_chosen(first: &[u16], second: &[u16]) -> bool
     ensures answer { result ≡ second_chosen first.now second.now }
 {
-    if contains(second, Color::NONE) {
+    if second.contains(&Color::NONE) {
         return false;
     }
-    if contains(first, Color::NONE) {
-        return true;
-    }
-    days_of(second) < days_of(first)
+    first.contains(&Color::NONE) || days_of(second) < days_of(first)
 }
 
 // A leading part of one of two lists: which of them, and how long it is.
@@ -223,13 +156,7 @@ pub struct LeadingPart {
 pub fn fewer_days_part(first: &[u16], second: &[u16], m: usize) -> LeadingPart
     ensures answer { result ≡ fewer_days first.now second.now m }
 {
-    if first.len() < m {
-        return LeadingPart {
-            second: false,
-            length: 0,
-        };
-    }
-    if second.len() < m {
+    if first.len() < m || second.len() < m {
         return LeadingPart {
             second: false,
             length: 0,
@@ -253,11 +180,6 @@ pub fn fewer_days<'a>(first: &'a [u16], second: &'a [u16], m: usize) -> &'a [u16
     ensures fewest { FewestDays first.now second.now m result.now }
 {
     let part = fewer_days_part(first, second, m);
-    if part.length == 0 {
-        return &first[0..0];
-    }
-    if part.second {
-        return &second[..part.length];
-    }
-    &first[..part.length]
+    let list = if part.second { second } else { first };
+    &list[..part.length]
 }
