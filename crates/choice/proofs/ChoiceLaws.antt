@@ -4,11 +4,12 @@ use mathlib.Core.Path.{◌≡◌, refl, sym, subst, ◌∙◌}
 use mathlib.Core.Logic.{◌⊎◌, inl, inr, ◌≢◌}
 use mathlib.Core.List.{List}
 use mathlib.Core.Option.{Option, none, some}
-use mathlib.Core.Bool.{Bool, true, false, cond, true≢false}
+use mathlib.Core.Bool.{Bool, true, false, true≢false}
 use native.Mathlib.Omega.{arith}
 use native.Mathlib.Numerals.{add-one}
 use native.Mathlib.Nat.{not-suc-le-zero}
-use lib.ListN.{length, get_or}
+use lib.ListN.{length, get_or, take}
+use lib.Seq.{get_or-take, length-take-le}
 use lib.Dec.{eqb, ltb}
 use borrow.Author.Tests.{lt-ltb, le-ltb, eq-eqb, ne_eqb, eqb-true, not-true}
 use Rattle.lists.proofs.Tests.{by-test, dec_eq, and_true, and_false}
@@ -25,17 +26,9 @@ module _ (f : ℕ → ℕ) where
   greatest_none = refl
 
   -- One number more, with the value x.
-  module _ (n best x : ℕ) (so_far : best ≡ greatest_below f n) (value : x ≡ f n) where
-    pub greatest_more : best < x → x ≡ greatest_below f (n + 1)
-    unfolding greatest_below
-    greatest_more h = rw (add-one n) (omega (arith, so_far, value))
-
-    pub greatest_same : x ≤ best → best ≡ greatest_below f (n + 1)
-    unfolding greatest_below
-    greatest_same h = rw (add-one n) (omega (arith, so_far, value))
-
-  pub greatest_all : (n k best : ℕ) → best ≡ greatest_below f n → n ≤ k → k ≤ n → best ≡ greatest_below f k
-  greatest_all n k best e h l = let z : n ≡ k = omega arith in rw z at e
+  pub greatest_more : (n best x r : ℕ) → best ≡ greatest_below f n → x ≡ f n → r ≡ max best x → r ≡ greatest_below f (n + 1)
+  unfolding greatest_below
+  greatest_more n best x r so_far value e = rw (add-one n) (omega (arith, so_far, value))
 
   greatest_bound : (n v : ℕ) → v < n → f v ≤ greatest_below f n
   unfolding greatest_below
@@ -49,6 +42,12 @@ module _ (f : ℕ → ℕ) where
     | inl e ↦ (n, omega arith, sym e)
     | inr e ↦ let r = greatest_reached n (omega arith) in (r.0, omega (arith, r.1), omega (arith, r.2))
   ]
+
+-- Functions that agree below n have one greatest value there.
+pub greatest_agrees : (f g : ℕ → ℕ) (n : ℕ) → ((v : ℕ) → v < n → f v ≡ g v) → greatest_below f n ≡ greatest_below g n
+unfolding greatest_below
+greatest_agrees f g zero e = refl
+greatest_agrees f g (suc n) e = omega (arith, greatest_agrees f g n (λ v h. e v (omega arith)), e n (omega arith))
 
 -- ---- the lowest number
 
@@ -99,10 +98,6 @@ module _ (t : ℕ → Bool) where
 
 -- ---- the choice
 
--- What `count_with` answers.
-pub with_count : (own saturation count r : ℕ) → (own ≡ saturation → r ≡ count) × ((own ≡ saturation → ⊥) → r ≡ 0) → r ≡ cond (eqb own saturation) count 0
-with_count own saturation count r told = elim (dec_eq own saturation) [ inl e ↦ rw (eq-eqb own saturation e) (told.0 e) | inr n ↦ rw (ne_eqb own saturation n) (told.1 n) ]
-
 -- The test, as the code makes it.
 module _ (colors saturations waiting : List ℕ) (most longest k : ℕ) where
   pub other_saturation : (get_or saturations k 0 ≡ most → ⊥) → can_be_next colors saturations waiting most longest k ≡ false
@@ -127,6 +122,14 @@ module _ (colors saturations waiting : List ℕ) (most longest k : ℕ) where
       let a = and_true (eqb (get_or saturations k 0) most) _ e in
       let b = and_true (eqb (get_or waiting k 0) longest) _ a.1 in
       (eqb-true (get_or saturations k 0) most a.0, eqb-true (get_or waiting k 0) longest b.0, is_colored_false colors k (not-true (is_colored colors k) b.1))
+
+-- The greatest counts of the front of the lists, as the code takes it.
+module _ (saturations waiting : List ℕ) (n : ℕ) (saturations_room : n ≤ length saturations) where
+  pub most_of_front : (most : ℕ) → most ≡ greatest_below (λ v. get_or (take n saturations) v 0) (length (take n saturations)) → most ≡ greatest_below (λ v. get_or saturations v 0) n
+  most_of_front most e = e ∙ rw (length-take-le n saturations saturations_room) (greatest_agrees (λ v. get_or (take n saturations) v 0) (λ v. get_or saturations v 0) n (λ v h. get_or-take n saturations v 0 h))
+
+  pub longest_of_front : (most longest : ℕ) → longest ≡ greatest_below (count_with (take n saturations) most (take n waiting)) (length (take n saturations)) → longest ≡ greatest_below (count_with saturations most waiting) n
+  longest_of_front most longest e = e ∙ rw (length-take-le n saturations saturations_room) (greatest_agrees (count_with (take n saturations) most (take n waiting)) (count_with saturations most waiting) n (λ v h. rw (get_or-take n saturations v 0 h, get_or-take n waiting v 0 h)))
 
 -- No choice without the counts.
 module _ (colors saturations waiting : List ℕ) where

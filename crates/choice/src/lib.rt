@@ -1,49 +1,40 @@
 // The choice of the next item of Saturation, by the two counts of each item.
 #![tactic(auto)]
 
-ghost use Rattle.std.specs.Prelude.{◌≡◌, ℕ, ◌≤◌, length, get_or};
+ghost use Rattle.std.specs.Prelude.{◌≡◌, ℕ, ◌≤◌, length, get_or, cond, eqb};
 ghost use Rattle.choice.specs.Choice.{greatest_below, count_with, option_of, choice_of};
 
 use graph::{Color, Graph, NodeIndex};
 
-// The greatest of the first `n` counts.
-fn greatest(counts: &[u16], n: usize) -> u16
-    requires { n ≤ length counts.now }
-    ensures greatest { let counts = counts.entry.now in result ≡ greatest_below (λ (v : ℕ). get_or counts v 0) n }
+// The greatest of the counts, 0 without any.
+#[tactic(auto, using(crate::proofs::ChoiceLaws::greatest_none, crate::proofs::ChoiceLaws::greatest_more))]
+fn greatest(counts: &[u16]) -> u16
+    ensures greatest { let counts = counts.entry.now in result ≡ greatest_below (λ (v : ℕ). get_or counts v 0) (length counts) }
 {
     let mut best = 0;
-    let mut v = 0;
-    while v < n {
-        let count = counts[v];
-        v += 1;
-        if best < count {
-            best = count;
-        }
+    for count in counts {
+        best = best.max(*count);
     }
     best
 }
 
-// The count of an item that has this saturation, 0 of any other.
+// The count of an item that has this saturation, 0 of any other. Both are read already, so that the compiler can take many at once.
 fn count_with(own: u16, saturation: u16, count: u16) -> u16
-    ensures answer { (own ≡ saturation → result ≡ count) × ((own ≡ saturation → ⊥) → result ≡ 0) }
+    ensures answer { result ≡ cond (eqb own saturation) count 0 }
 {
     if own == saturation { count } else { 0 }
 }
 
-// The greatest waiting count of those of the first `n` items that have this saturation.
-fn greatest_among(saturations: &[u16], saturation: u16, waiting: &[u16], n: usize) -> u16
-    requires { (n ≤ length saturations.now) × (n ≤ length waiting.now) }
+// The greatest waiting count of the items that have this saturation, 0 without any.
+#[tactic(auto, using(crate::proofs::ChoiceLaws::greatest_none, crate::proofs::ChoiceLaws::greatest_more))]
+fn greatest_among(saturations: &[u16], saturation: u16, waiting: &[u16]) -> u16
+    requires { length saturations.now ≡ length waiting.now }
     ensures greatest { let saturations = saturations.entry.now in let waiting = waiting.entry.now in
-        result ≡ greatest_below (count_with saturations saturation waiting) n }
+        result ≡ greatest_below (count_with saturations saturation waiting) (length saturations) }
 {
     let mut best = 0;
-    let mut v = 0;
-    while v < n {
-        let count = count_with(saturations[v], saturation, waiting[v]);
-        v += 1;
-        if best < count {
-            best = count;
-        }
+    for item in 0..saturations.len() {
+        best = best.max(count_with(saturations[item], saturation, waiting[item]));
     }
     best
 }
@@ -54,27 +45,15 @@ pub fn choose(colors: &[u16], saturations: &[u16], waiting: &[u16]) -> Option<No
     ensures answer { let colors = colors.entry.now in let saturations = saturations.entry.now in let waiting = waiting.entry.now in
         option_of result ≡ choice_of colors saturations waiting }
 {
-    if Graph::MAX_EDGES < colors.len() {
+    let count = colors.len();
+    if Graph::MAX_EDGES < count || saturations.len() < count || waiting.len() < count {
         return None;
     }
-    if saturations.len() < colors.len() {
-        return None;
-    }
-    if waiting.len() < colors.len() {
-        return None;
-    }
-    let most = greatest(saturations, colors.len());
-    let longest = greatest_among(saturations, most, waiting, colors.len());
-    let mut next = 0;
-    while next < colors.len() {
-        let item = next;
-        next += 1;
-        if saturations[item] == most {
-            if waiting[item] == longest {
-                if colors[item] == Color::NONE {
-                    return Some(NodeIndex(item as u16));
-                }
-            }
+    let most = greatest(&saturations[..count]);
+    let longest = greatest_among(&saturations[..count], most, &waiting[..count]);
+    for item in 0..count {
+        if saturations[item] == most && waiting[item] == longest && colors[item] == Color::NONE {
+            return Some(NodeIndex(item as u16));
         }
     }
     None
