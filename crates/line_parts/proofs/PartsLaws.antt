@@ -7,9 +7,11 @@ use mathlib.Core.Path.{◌≡◌, refl, sym, ap, ◌∙◌}
 use native.Mathlib.Numerals.{add-one}
 use native.Mathlib.Omega.{arith}
 use lib.ListN.{length, get_or, take, drop, length-drop, drop_of_length-le}
-use lib.Seq.{drop-cons, length-take-le, take_all}
+use lib.Seq.{take_all}
 use lib.Dec.{eqb, ltb}
-use borrow.Author.Tests.{eq-eqb, ne_eqb, lt-ltb, le-ltb}
+use borrow.Author.Tests.{eq-eqb, ne_eqb, lt-ltb, le-ltb, ltb-true, ltb-false}
+use Rattle.std.specs.Prelude.{Some, None, position}
+use Rattle.std.specs.List.{position_or_len}
 use Rattle.lists.proofs.Tests.{by-test, dec_eq}
 use Rattle.graph.specs.Edges.{first_end, second_end, is_loop}
 use Rattle.graph.specs.Stretch.{bounds, stretch}
@@ -19,31 +21,27 @@ use Rattle.line_parts.specs.Parts.{part_in, part_from, at_turn, part_at, part_st
 
 -- ---- the place of an edge
 
+eqb_turned : (a b : ℕ) → eqb a b ≡ eqb b a
+eqb_turned a b = elim (dec_eq a b) [ inl e ↦ eq-eqb a b e ∙ sym (eq-eqb b a (sym e)) | inr d ↦ ne_eqb a b d ∙ sym (ne_eqb b a (λ e. d (sym e))) ]
+
+place_position : (k : ℕ) (l : List ℕ) → place_of k l ≡ position_or_len (λ x. eqb x k) l
+unfolding place_of
+place_position k [] = refl
+place_position k (x ∷ l) = rw (eqb_turned x k) (by-test (eqb k x) (λ t. rw t) (λ t. rw t (omega (arith, place_position k l))))
+
+-- As `position` finds it.
 module _ (k : ℕ) (l : List ℕ) where
-  pub place_start : place_of k (drop 0 l) + 0 ≡ place_of k l
-  place_start = omega arith
+  pub place_some : (at : ℕ) → Some at ≡ position (λ x. eqb x k) l → (at ≡ place_of k l) × (at < length l)
+  place_some at e = by-test (ltb (position_or_len (λ x. eqb x k) l) (length l))
+      (λ t. let f : Some at ≡ Some (position_or_len (λ x. eqb x k) l) = rw t at e in let g : at ≡ position_or_len (λ x. eqb x k) l = cc in (g ∙ sym (place_position k l), omega (arith, ltb-true _ _ t)))
+      (λ t. let f : Some at ≡ None = rw t at e in let z : ⊥ = cc in absurd z)
 
-  pub place_here : (i : ℕ) → place_of k (drop i l) + i ≡ place_of k l → i < length l → get_or l i 0 ≡ k → i ≡ place_of k l
-  unfolding place_of
-  place_here i e h p = let t = eq-eqb k (get_or l i 0) (sym p) in omega (arith, rw (drop-cons l i 0 h, t) at e)
-
-  pub place_more : (i : ℕ) → place_of k (drop i l) + i ≡ place_of k l → i < length l → (get_or l i 0 ≡ k → ⊥) → place_of k (drop (i + 1) l) + (i + 1) ≡ place_of k l
-  unfolding place_of
-  place_more i e h p =
-      let t = ne_eqb k (get_or l i 0) (λ q. p (sym q)) in
-      let f : suc (place_of k (drop (suc i) l)) + i ≡ place_of k l = rw (drop-cons l i 0 h, t) at e in
-      rw (add-one i) (omega arith)
-
-  pub place_end : (i : ℕ) → place_of k (drop i l) + i ≡ place_of k l → length l ≤ i → i ≡ place_of k l
-  unfolding place_of
-  place_end i e h = omega (arith, rw (drop_of_length-le l h) at e)
+  pub place_none : None ≡ position (λ x. eqb x k) l → length l ≤ place_of k l
+  place_none e = by-test (ltb (position_or_len (λ x. eqb x k) l) (length l))
+      (λ t. let f : None ≡ Some (position_or_len (λ x. eqb x k) l) = rw t at e in let z : ⊥ = cc in absurd z)
+      (λ t. omega (arith, place_position k l, ltb-false _ _ t))
 
 -- ---- the part after it, and the one before it
-
-place_inside : (k : ℕ) (l : List ℕ) → place_of k l ≤ length l
-unfolding place_of
-place_inside k [] = omega arith
-place_inside k (x ∷ l) = by-test (eqb k x) (λ t. rw t (omega arith)) (λ t. rw t (omega (arith, place_inside k l)))
 
 part_before : (k : ℕ) (l : List ℕ) → take (place_of k l) l ≡ part_in false k l
 unfolding place_of part_in before_in
@@ -76,6 +74,9 @@ module _ (later : Bool) (k at : ℕ) (l : List ℕ) (e : at ≡ place_of k l) wh
   pub cut_before : later ≡ false → take at l ≡ part_in later k l
   cut_before t = rw (t, e) (part_before k l)
 
+  pub cut_all : later ≡ false → length l ≤ at → l ≡ part_in later k l
+  cut_all t h = sym (take_all at l h) ∙ cut_before t
+
   pub from_after : later ≡ true → at < length l → part_from later k l ≡ at + 1
   unfolding part_from
   from_after t h = rw (t, ← e, lt-ltb at (length l) h)
@@ -87,9 +88,6 @@ module _ (later : Bool) (k at : ℕ) (l : List ℕ) (e : at ≡ place_of k l) wh
   pub from_before : later ≡ false → part_from later k l ≡ 0
   unfolding part_from
   from_before t = rw t
-
-  pub cut_inside : at ≡ length (take at l)
-  cut_inside = sym (length-take-le at l (omega (arith, place_inside k l)))
 
 -- ---- the ends of an edge
 

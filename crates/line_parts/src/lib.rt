@@ -2,7 +2,7 @@
 // higher end, then at the lower, then those before it, the same way. A loop has one end only.
 #![tactic(auto)]
 
-ghost use Rattle.std.specs.Prelude.{◌≡◌, ◌+◌, ◌*◌};
+ghost use Rattle.std.specs.Prelude.{◌≡◌, ◌==◌, ◌+◌, ◌*◌, position};
 ghost use Rattle.graph.specs.Stretch.{stretch};
 ghost use Rattle.line_list.specs.LineNeighbors.{higher_end, lower_end};
 ghost use Rattle.greedy.specs.IndependentSet.{place_of};
@@ -11,18 +11,11 @@ ghost use Rattle.line_parts.specs.Parts.{part_in, part_from, part_at, part_start
 use edge_walk::{edges_at, end_at};
 use graph::{EdgeIndex, NodeIndex};
 
-// Where an edge stands among these, their end if it does not.
-fn place_of(edges: &[u16], edge: EdgeIndex) -> usize
-    ensures answer { result ≡ place_of edge.0 edges.now }
+// Where an edge stands among these.
+fn place_of(edges: &[u16], edge: EdgeIndex) -> Option<usize>
+    ensures answer { result ≡ position (λ x. x == edge.0) edges.now }
 {
-    let mut i = 0;
-    while i < edges.len() {
-        if edges[i] == edge.0 {
-            return i;
-        }
-        i += 1;
-    }
-    i
+    edges.iter().position(|other| *other == edge.0)
 }
 
 // Of these edges those after an edge, or those before it.
@@ -31,14 +24,12 @@ fn part_of<'a>(edges: &'a [u16], edge: EdgeIndex, later: bool) -> &'a [u16]
     ensures place { let edges₀ = edges.now in
         (result.ref_ptr.0 ≡ edges.entry.ref_ptr.0) × (result.ref_ptr.1 ≡ edges.entry.ref_ptr.1 + 2 * part_from later edge.0 edges₀) }
 {
-    let at = place_of(edges, edge);
-    if later {
-        if at < edges.len() {
-            return &edges[at + 1..];
-        }
-        return &edges[0..0];
+    match place_of(edges, edge) {
+        Some(at) if later => &edges[at + 1..],
+        Some(at) => &edges[..at],
+        None if later => &edges[..0],
+        None => edges,
     }
-    &edges[..at]
 }
 
 // An edge's ends in order, equal for a loop.
@@ -55,14 +46,15 @@ fn ends_of(ends: &[u16], edge: EdgeIndex) -> EdgeEnds
     let first = end_at(ends, 2 * k);
     let second = end_at(ends, 2 * k + 1);
     if first.0 < second.0 {
-        return EdgeEnds {
+        EdgeEnds {
             higher: second,
             lower: first,
-        };
-    }
-    EdgeEnds {
-        higher: first,
-        lower: second,
+        }
+    } else {
+        EdgeEnds {
+            higher: first,
+            lower: second,
+        }
     }
 }
 
@@ -81,12 +73,13 @@ pub fn part_at<'a>(
         × (result.ref_ptr.1 ≡ entries.entry.ref_ptr.1 + 2 * part_start starts entries₀ ends edge.0 turn) }
 {
     let both = ends_of(ends, edge);
+    // A turn stays a number: a caller counts the four off in order, and two tests tell which part it is, where an enum would take four arms.
     let later = turn < 2;
     if turn % 2 == 0 {
         return part_of(edges_at(starts, entries, both.higher), edge, later);
     }
-    if both.higher.0 == both.lower.0 {
-        return &entries[0..0];
+    if both.higher == both.lower {
+        return &entries[..0];
     }
     part_of(edges_at(starts, entries, both.lower), edge, later)
 }

@@ -1,17 +1,25 @@
 -- `part_of` meets its contract: the edges are cut where the edge stands.
 use mathlib.Core.Path.{refl}
 use native.Mathlib.Omega.{arith}
-use Rattle.line_parts.proofs.PartsLaws.{cut_after, cut_none, cut_before, cut_inside, from_after, from_none, from_before}
+use Rattle.line_parts.proofs.PartsLaws.{place_some, place_none, cut_after, cut_none, cut_before, cut_all, from_after, from_none, from_before}
 use Rattle.line_parts.proofs.part_of.Goals as goal
 
-pub returns-then-at-edges : goal.returns-then-at-edges
-returns-then-at-edges c = record { contents = cut_after _ _ _ _ c.place_of-at.ensures.answer c.if-later.true; place = (refl, omega (arith, from_after _ _ _ _ c.place_of-at.ensures.answer c.if-later.true c.if-at-edges.true)) }
+pub returns-in-Some : goal.returns-in-Some
+returns-in-Some c =
+    let p = place_some _ _ _ c.in-Some.ensures.answer in
+    record { contents = cut_after _ _ _ _ p.0 c.if-later.true; place = (refl, omega (arith, from_after _ _ _ _ p.0 c.if-later.true p.1)) }
 
-pub returns-then-later : goal.returns-then-later
-returns-then-later c = record { contents = cut_none _ _ _ _ c.place_of-at.ensures.answer c.if-later.true c.if-at-edges.false; place = (refl, omega (arith, from_none _ _ _ _ c.place_of-at.ensures.answer c.if-later.true c.if-at-edges.false)) }
+pub returns-in-Some-2 : goal.returns-in-Some-2
+returns-in-Some-2 c =
+    let p = place_some _ _ _ c.in-Some.ensures.answer in
+    record { contents = cut_before _ _ _ _ p.0 c.if-later.false; place = (refl, omega (arith, from_before _ _ _ _ p.0 c.if-later.false)) }
 
-pub slice_bounds-result-end-2 : goal.slice_bounds-result-end-2
-slice_bounds-result-end-2 c = cut_inside c.args.later _ _ _ c.place_of-at.ensures.answer
+pub returns-in-None : goal.returns-in-None
+returns-in-None c =
+    let p = place_none _ _ c.in-None.ensures.answer in
+    record { contents = cut_none _ _ _ _ refl c.if-later-2.true p; place = (refl, omega (arith, from_none _ _ _ _ refl c.if-later-2.true p)) }
 
-pub returns : goal.returns
-returns c = record { contents = cut_before _ _ _ _ c.place_of-at.ensures.answer c.if-later.false; place = (refl, omega (arith, from_before _ _ _ _ c.place_of-at.ensures.answer c.if-later.false)) }
+pub returns-in-None-2 : goal.returns-in-None-2
+returns-in-None-2 c =
+    let p = place_none _ _ c.in-None.ensures.answer in
+    record { contents = cut_all _ _ _ _ refl c.if-later-2.false p; place = (refl, omega (arith, from_before c.args.later c.args.edge.0 _ c.args.edges.now refl c.if-later-2.false)) }
