@@ -1,5 +1,5 @@
 -- Laws of what specs/Parts defines.
-use Prim.Native.Nat.{ℕ, suc, ◌+◌, ◌-◌, ◌*◌, ◌%◌, ◌≤◌, ◌<◌}
+use Prim.Native.Nat.{ℕ, suc, min, max, ◌+◌, ◌-◌, ◌*◌, ◌%◌, ◌≤◌, ◌<◌}
 use mathlib.Core.Bool.{Bool, true, false}
 use mathlib.Core.List.{List, [], ◌∷◌}
 use mathlib.Core.Logic.{inl, inr}
@@ -92,13 +92,13 @@ module _ (later : Bool) (k at : ℕ) (l : List ℕ) (e : at ≡ place_of k l) wh
 -- ---- the ends of an edge
 
 module _ (ends : List ℕ) (k a b : ℕ) (p : a ≡ get_or ends (2 * k) 0) (q : b ≡ get_or ends (2 * k + 1) 0) where
-  pub ends_rise : a < b → (b ≡ higher_end ends k) × (a ≡ lower_end ends k)
-  unfolding higher_end lower_end first_end second_end
-  ends_rise h = rw (← p, ← q, lt-ltb a b h) (refl, refl)
+  pub higher_end_max : max a b ≡ higher_end ends k
+  unfolding higher_end first_end second_end
+  higher_end_max = rw (← p, ← q) (by-test (ltb a b) (λ t. rw t (omega (arith, ltb-true a b t))) (λ t. rw t (omega (arith, ltb-false a b t))))
 
-  pub ends_fall : b ≤ a → (a ≡ higher_end ends k) × (b ≡ lower_end ends k)
-  unfolding higher_end lower_end first_end second_end
-  ends_fall h = rw (← p, ← q, le-ltb a b h) (refl, refl)
+  pub lower_end_min : min a b ≡ lower_end ends k
+  unfolding lower_end first_end second_end
+  lower_end_min = rw (← p, ← q) (by-test (ltb a b) (λ t. rw t (omega (arith, ltb-true a b t))) (λ t. rw t (omega (arith, ltb-false a b t))))
 
 pub ends_cases : (P : ℕ → ℕ → Type 0) (ends : List ℕ) (k : ℕ) → P (second_end ends k) (first_end ends k) → P (first_end ends k) (second_end ends k) → P (higher_end ends k) (lower_end ends k)
 unfolding higher_end lower_end

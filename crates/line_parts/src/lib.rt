@@ -39,22 +39,16 @@ struct EdgeEnds {
     pub lower: NodeIndex,
 }
 
+#[tactic(auto, using(crate::proofs::PartsLaws::higher_end_max, crate::proofs::PartsLaws::lower_end_min))]
 fn ends_of(ends: &[u16], edge: EdgeIndex) -> EdgeEnds
     ensures answer { let ends = ends.entry.now in (result.higher.0 ≡ higher_end ends edge.0) × (result.lower.0 ≡ lower_end ends edge.0) }
 {
     let k = edge.0 as usize;
     let first = end_at(ends, 2 * k);
     let second = end_at(ends, 2 * k + 1);
-    if first.0 < second.0 {
-        EdgeEnds {
-            higher: second,
-            lower: first,
-        }
-    } else {
-        EdgeEnds {
-            higher: first,
-            lower: second,
-        }
+    EdgeEnds {
+        higher: NodeIndex(first.0.max(second.0)),
+        lower: NodeIndex(first.0.min(second.0)),
     }
 }
 
