@@ -13,6 +13,7 @@ use native.Mathlib.Nat.{le_refl}
 use lib.Dec.{eqb, ltb}
 use Rattle.lists.proofs.MemberLaws.{map_append, dec_mem, mem_get_or}
 use Rattle.items.specs.declared.Kind.{Kind}
+use Rattle.items.specs.declared.table.Items.{Items}
 use Rattle.items.specs.Items.{first_node, second_node, across_of}
 use Rattle.color_marks.specs.Marks.{across_all, along, around, stored, has_color, stands_at, stands, mark_of, Asked, used_marks}
 use Rattle.lists.specs.Member.{Mem, elem}
@@ -29,12 +30,12 @@ pub across_more : (kind : Kind) (ends : List ℕ) (w : ℕ) (ks : List ℕ) (i :
 unfolding across_all
 across_more kind ends w ks i h = rw (add-one i, take-suc ks i 0 h) (map_append (λ (k : ℕ). across_of kind ends k w) (take i ks) (get_or ks i 0 ∷ []))
 
-module _ (kind : Kind) (ends starts entries : List ℕ) where
-  pub around_one : (v a b : ℕ) → a ≡ first_node kind ends v → b ≡ second_node kind ends v → a ≡ b → around kind ends starts entries v ≡ along kind ends starts entries a
+module _ (items : Items) where
+  pub around_one : (v a b : ℕ) → a ≡ first_node items.kind items.table.ends.now v → b ≡ second_node items.kind items.table.ends.now v → a ≡ b → around items v ≡ along items a
   unfolding around
   around_one v a b p q e = rw (← p, ← q, eq-eqb a b e)
 
-  pub around_two : (v a b : ℕ) → a ≡ first_node kind ends v → b ≡ second_node kind ends v → (a ≡ b → ⊥) → around kind ends starts entries v ≡ along kind ends starts entries a ++ along kind ends starts entries b
+  pub around_two : (v a b : ℕ) → a ≡ first_node items.kind items.table.ends.now v → b ≡ second_node items.kind items.table.ends.now v → (a ≡ b → ⊥) → around items v ≡ along items a ++ along items b
   unfolding around
   around_two v a b p q n = rw (← p, ← q, ne_eqb a b n)
 
@@ -145,13 +146,13 @@ module _ (kind : Kind) (ends colors : List ℕ) (c w : ℕ) where
       unfolding has_color
       stands_other p n = past p (rw (ne_eqb (get_or colors v 0) c n) (and_false (ltb v (length colors)) false refl))
 
-module _ (kind : Kind) (ends starts entries colors : List ℕ) (c : ℕ) where
+module _ (items : Items) (colors : List ℕ) (c : ℕ) where
   -- ---- as the code asks
 
-  pub asked_none : Asked kind ends starts entries colors c (replicate 512 0)
+  pub asked_none : Asked items colors c (replicate 512 0)
   asked_none = record { answer = λ w h n. absurd (n (get_or-replicate 512 w 0 0 (rw (length-replicate {A = ℕ} 512 0) at h))) }
 
-  asked_more : (at : List ℕ) (w x : ℕ) → Asked kind ends starts entries colors c at → w < length at → eqb x 2 ≡ stands kind ends starts entries colors c w → Asked kind ends starts entries colors c (set at w x)
+  asked_more : (at : List ℕ) (w x : ℕ) → Asked items colors c at → w < length at → eqb x 2 ≡ stands items colors c w → Asked items colors c (set at w x)
   asked_more at w x p h e = record {
     answer = λ u b n. elim (dec_eq u w) [
       | inl z ↦ rw (z, get_or-set_same at w x 0 h) e
@@ -159,86 +160,73 @@ module _ (kind : Kind) (ends starts entries colors : List ℕ) (c : ℕ) where
     ];
   }
 
-  pub asked_outside : (at : List ℕ) (w : ℕ) → Asked kind ends starts entries colors c at → (r : Bool) → r ≡ stands_at kind ends colors c w (stretch starts entries w) → (r ≡ stands kind ends starts entries colors c w) × Asked kind ends starts entries colors c at
+  pub asked_outside : (at : List ℕ) (w : ℕ) → Asked items colors c at → (r : Bool) → r ≡ stands_at items.kind items.table.ends.now colors c w (stretch items.table.starts.now items.table.entries.now w) → (r ≡ stands items colors c w) × Asked items colors c at
   unfolding stands
   asked_outside at w p r q = (q, p)
 
-  pub asked_before : (at : List ℕ) (w : ℕ) → Asked kind ends starts entries colors c at → w < length at → (get_or at w 0 ≡ 0 → ⊥) → (eqb (get_or at w 0) 2 ≡ stands kind ends starts entries colors c w) × Asked kind ends starts entries colors c at
+  pub asked_before : (at : List ℕ) (w : ℕ) → Asked items colors c at → w < length at → (get_or at w 0 ≡ 0 → ⊥) → (eqb (get_or at w 0) 2 ≡ stands items colors c w) × Asked items colors c at
   asked_before at w p h n = (p.answer w h n, p)
 
-  module _ (at : List ℕ) (w : ℕ) (p : Asked kind ends starts entries colors c at) (h : w < length at) (r : Bool) (q : r ≡ stands_at kind ends colors c w (stretch starts entries w)) where
-    pub asked_yes : r ≡ true → (true ≡ stands kind ends starts entries colors c w) × Asked kind ends starts entries colors c (set at w 2)
+  module _ (at : List ℕ) (w : ℕ) (p : Asked items colors c at) (h : w < length at) (r : Bool) (q : r ≡ stands_at items.kind items.table.ends.now colors c w (stretch items.table.starts.now items.table.entries.now w)) where
+    pub asked_yes : r ≡ true → (true ≡ stands items colors c w) × Asked items colors c (set at w 2)
     unfolding stands
     asked_yes t = (sym t ∙ q, asked_more at w 2 p h (sym t ∙ q))
 
-    pub asked_no : r ≡ false → (false ≡ stands kind ends starts entries colors c w) × Asked kind ends starts entries colors c (set at w 1)
+    pub asked_no : r ≡ false → (false ≡ stands items colors c w) × Asked items colors c (set at w 1)
     unfolding stands
     asked_no t = (sym t ∙ q, asked_more at w 1 p h (sym t ∙ q))
 
   module _ (v : ℕ) where
-    pub mark_outside : length colors ≤ v → 0 ≡ mark_of kind ends starts entries colors c v
+    pub mark_outside : length colors ≤ v → 0 ≡ mark_of items colors c v
     unfolding mark_of has_color
     mark_outside o = rw (le-ltb v (length colors) o)
 
-    pub mark_colored : (get_or colors v 0 ≡ no_color → ⊥) → 0 ≡ mark_of kind ends starts entries colors c v
+    pub mark_colored : (get_or colors v 0 ≡ no_color → ⊥) → 0 ≡ mark_of items colors c v
     unfolding mark_of has_color
     mark_colored n = rw (ne_eqb (get_or colors v 0) no_color n, and_false (ltb v (length colors)))
 
     module _ (inside : v < length colors) (bare : get_or colors v 0 ≡ no_color) where
       -- The mark of an item without a colour.
-      pub bare_mark : mark_of kind ends starts entries colors c v ≡ cond (stands kind ends starts entries colors c (first_node kind ends v) || stands kind ends starts entries colors c (second_node kind ends v)) 1 0
+      pub bare_mark : mark_of items colors c v ≡ cond (stands items colors c (first_node items.kind items.table.ends.now v) || stands items colors c (second_node items.kind items.table.ends.now v)) 1 0
       unfolding mark_of has_color
       bare_mark = rw (lt-ltb v (length colors) inside, eq-eqb (get_or colors v 0) no_color bare)
 
-      module _ (a : ℕ) (p : a ≡ first_node kind ends v) (r : Bool) (x : r ≡ stands kind ends starts entries colors c a) where
-        pub mark_first : r ≡ true → 1 ≡ mark_of kind ends starts entries colors c v
+      module _ (a : ℕ) (p : a ≡ first_node items.kind items.table.ends.now v) (r : Bool) (x : r ≡ stands items colors c a) where
+        pub mark_first : r ≡ true → 1 ≡ mark_of items colors c v
         mark_first t = sym (bare_mark ∙ rw (← p, ← x, t))
 
-        module _ (b : ℕ) (q : b ≡ second_node kind ends v) (s : Bool) (y : s ≡ stands kind ends starts entries colors c b) (f : r ≡ false) where
-          pub mark_second : s ≡ true → 1 ≡ mark_of kind ends starts entries colors c v
+        module _ (b : ℕ) (q : b ≡ second_node items.kind items.table.ends.now v) (s : Bool) (y : s ≡ stands items colors c b) (f : r ≡ false) where
+          pub mark_second : s ≡ true → 1 ≡ mark_of items colors c v
           mark_second t = sym (bare_mark ∙ rw (← p, ← q, ← x, ← y, f, t))
 
-          pub mark_neither : s ≡ false → 0 ≡ mark_of kind ends starts entries colors c v
+          pub mark_neither : s ≡ false → 0 ≡ mark_of items colors c v
           mark_neither t = sym (bare_mark ∙ rw (← p, ← q, ← x, ← y, f, t))
 
 -- The items around item v get their marks, those along the edges at its first node and then at its second.
-module _ (kind : Kind) (ends starts entries : List ℕ) (v a b : ℕ) (p : a ≡ first_node kind ends v) (q : b ≡ second_node kind ends v) where
-  module _ (f : ℕ → ℕ) (edges : List ℕ) (x : edges ≡ stretch starts entries a) (marks₀ marks : List ℕ) (m : marks ≡ stored f (across_all kind ends a edges) marks₀) where
-    pub around_stored : a ≡ b → marks ≡ stored f (around kind ends starts entries v) marks₀
+module _ (items : Items) (v a b : ℕ) (p : a ≡ first_node items.kind items.table.ends.now v) (q : b ≡ second_node items.kind items.table.ends.now v) where
+  module _ (f : ℕ → ℕ) (edges : List ℕ) (x : edges ≡ stretch items.table.starts.now items.table.entries.now a) (marks₀ marks : List ℕ) (m : marks ≡ stored f (across_all items.kind items.table.ends.now a edges) marks₀) where
+    pub around_stored : a ≡ b → marks ≡ stored f (around items v) marks₀
     unfolding along
-    around_stored e = rw (around_one kind ends starts entries v a b p q e, ← x) m
+    around_stored e = rw (around_one items v a b p q e, ← x) m
 
-    pub both_stored : (a ≡ b → ⊥) → (others : List ℕ) → others ≡ stretch starts entries b → (marks' : List ℕ) → marks' ≡ stored f (across_all kind ends b others) marks → marks' ≡ stored f (around kind ends starts entries v) marks₀
+    pub both_stored : (a ≡ b → ⊥) → (others : List ℕ) → others ≡ stretch items.table.starts.now items.table.entries.now b → (marks' : List ℕ) → marks' ≡ stored f (across_all items.kind items.table.ends.now b others) marks → marks' ≡ stored f (around items v) marks₀
     unfolding along
-    both_stored n others y marks' m' = rw (around_two kind ends starts entries v a b p q n, ← x, ← y, stored_append f (across_all kind ends a edges) (across_all kind ends b others) marks₀, ← m) m'
+    both_stored n others y marks' m' = rw (around_two items v a b p q n, ← x, ← y, stored_append f (across_all items.kind items.table.ends.now a edges) (across_all items.kind items.table.ends.now b others) marks₀, ← m) m'
 
 -- ---- the marks of a colour that is used
 
-module _ (kind : Kind) (ends starts entries colors : List ℕ) (c v : ℕ) (marks : List ℕ) where
-  pub used_yes : elem c colors ≡ true → (used_marks kind ends starts entries colors c v marks) ≡ stored (mark_of kind ends starts entries colors c) (around kind ends starts entries v) marks
+module _ (items : Items) (colors : List ℕ) (c v : ℕ) (marks : List ℕ) where
+  pub used_yes : elem c colors ≡ true → (used_marks items colors c v marks) ≡ stored (mark_of items colors c) (around items v) marks
   unfolding used_marks
   used_yes t = rw t
 
-  pub used_no : elem c colors ≡ false → (used_marks kind ends starts entries colors c v marks) ≡ marks
+  pub used_no : elem c colors ≡ false → (used_marks items colors c v marks) ≡ marks
   unfolding used_marks
   used_no f = rw f
 
   -- As the code asks.
-  pub used_marked : (after : List ℕ) → after ≡ stored (mark_of kind ends starts entries colors c) (around kind ends starts entries v) marks → (r : Bool) → r ≡ elem c colors → r ≡ true → after ≡ used_marks kind ends starts entries colors c v marks
+  pub used_marked : (after : List ℕ) → after ≡ stored (mark_of items colors c) (around items v) marks → (r : Bool) → r ≡ elem c colors → r ≡ true → after ≡ used_marks items colors c v marks
   used_marked after e r p t = e ∙ sym (used_yes (sym p ∙ t))
 
-  pub unused_kept : (r : Bool) → r ≡ elem c colors → r ≡ false → marks ≡ used_marks kind ends starts entries colors c v marks
+  pub unused_kept : (r : Bool) → r ≡ elem c colors → r ≡ false → marks ≡ used_marks items colors c v marks
   unused_kept r p f = sym (used_no (sym p ∙ f))
-
-module _ (c : ℕ) (colors : List ℕ) (v : ℕ) (left : elem c (drop v colors) ≡ elem c colors) where
-  pub used_here : v < length colors → get_or colors v 0 ≡ c → true ≡ elem c colors
-  unfolding elem
-  used_here h e = rw (drop-cons colors v 0 h, eq-eqb c (get_or colors v 0) (sym e)) at left
-
-  pub used_next : v < length colors → (get_or colors v 0 ≡ c → ⊥) → elem c (drop (v + 1) colors) ≡ elem c colors
-  unfolding elem
-  used_next h n = rw (add-one v) (rw (drop-cons colors v 0 h, ne_eqb c (get_or colors v 0) (λ e. n (sym e))) at left)
-
-  pub used_none : length colors ≤ v → false ≡ elem c colors
-  unfolding elem
-  used_none h = rw (drop_of_length-le colors {i = v} h) at left

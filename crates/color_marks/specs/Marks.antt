@@ -2,6 +2,7 @@
 use Rattle.std.specs.Prelude.{ℕ, ◌<◌, List, ◌++◌, map, [], ◌∷◌, cond, Bool, false, ◌&&◌, ◌||◌, eqb, ltb, set, length, get_or, ◌≡◌, ◌≢◌}
 use Rattle.graph.specs.Stretch.{stretch}
 use Rattle.items.specs.declared.Kind.{Kind}
+use Rattle.items.specs.declared.table.Items.{Items}
 use Rattle.items.specs.Items.{first_node, second_node, across_of}
 use Rattle.graph.specs.Color.{no_color}
 use Rattle.lists.specs.Member.{elem}
@@ -12,14 +13,14 @@ use Rattle.lists.specs.Member.{elem}
 unfoldable pub across_all : Kind → List ℕ → ℕ → List ℕ → List ℕ
 across_all kind ends w ks = map (λ (k : ℕ). across_of kind ends k w) ks
 
-module _ (kind : Kind) (ends starts entries : List ℕ) where
+module _ (items : Items) where
   -- The items along the edges at node w.
   unfoldable pub along : ℕ → List ℕ
-  along w = across_all kind ends w (stretch starts entries w)
+  along w = across_all items.kind items.table.ends.now w (stretch items.table.starts.now items.table.entries.now w)
 
   -- The items along the edges at the nodes of item v.
   unfoldable pub around : ℕ → List ℕ
-  around v = cond (eqb (first_node kind ends v) (second_node kind ends v)) (along (first_node kind ends v)) (along (first_node kind ends v) ++ along (second_node kind ends v))
+  around v = cond (eqb (first_node items.kind items.table.ends.now v) (second_node items.kind items.table.ends.now v)) (along (first_node items.kind items.table.ends.now v)) (along (first_node items.kind items.table.ends.now v) ++ along (second_node items.kind items.table.ends.now v))
 
 -- ---- A list with a value stored at each of some places, one after the other.
 
@@ -43,14 +44,14 @@ module _ (kind : Kind) (ends colors : List ℕ) (c w : ℕ) where
 
 -- ---- The marks of the items to which a colour is not new: it stands at one of their nodes.
 
-module _ (kind : Kind) (ends starts entries colors : List ℕ) (c : ℕ) where
+module _ (items : Items) (colors : List ℕ) (c : ℕ) where
   -- Whether the colour stands at node w.
   unfoldable pub stands : ℕ → Bool
-  stands w = stands_at kind ends colors c w (stretch starts entries w)
+  stands w = stands_at items.kind items.table.ends.now colors c w (stretch items.table.starts.now items.table.entries.now w)
 
   -- The mark of item v: 1 where it has no colour and the colour stands at its first node or its second.
   unfoldable pub mark_of : ℕ → ℕ
-  mark_of v = cond (has_color colors no_color v) (cond (stands (first_node kind ends v) || stands (second_node kind ends v)) 1 0) 0
+  mark_of v = cond (has_color colors no_color v) (cond (stands (first_node items.kind items.table.ends.now v) || stands (second_node items.kind items.table.ends.now v)) 1 0) 0
 
   -- What is noted of each node: nothing, 0, or whether the colour stands there, 2 for yes.
   pub record Asked (at : List ℕ) : Type 0 where
@@ -58,7 +59,7 @@ module _ (kind : Kind) (ends starts entries colors : List ℕ) (c : ℕ) where
 
 -- ---- The marks are set if some item has the colour.
 
-module _ (kind : Kind) (ends starts entries colors : List ℕ) (c v : ℕ) (marks : List ℕ) where
+module _ (items : Items) (colors : List ℕ) (c v : ℕ) (marks : List ℕ) where
   -- The items around item v get their marks if some item has the colour; one that none has is new to all, and the marks stay.
   unfoldable pub used_marks : List ℕ
-  used_marks = cond (elem c colors) (stored (mark_of kind ends starts entries colors c) (around kind ends starts entries v) marks) marks
+  used_marks = cond (elem c colors) (stored (mark_of items colors c) (around items v) marks) marks

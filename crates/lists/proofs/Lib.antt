@@ -3,3 +3,4 @@ pub mod Tests
 pub mod MemberLaws
 pub mod PartsLaws
 pub mod SearchLaws
+pub mod AnyLaws

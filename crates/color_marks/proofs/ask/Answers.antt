@@ -3,13 +3,13 @@ use Rattle.color_marks.proofs.MarksLaws.{asked_outside, asked_before, asked_yes,
 use Rattle.color_marks.proofs.ask.Goals as goal
 
 pub returns-then-at-w : goal.returns-then-at-w
-returns-then-at-w c = record { answer = asked_outside _ _ _ _ _ _ _ _ c.requires _ c.stands_at.ensures.answer }
+returns-then-at-w c = record { answer = asked_outside _ _ _ _ _ c.requires _ c.stands_at.ensures.answer }
 
 pub returns-then-at-w-ne-NOT_ASKED : goal.returns-then-at-w-ne-NOT_ASKED
-returns-then-at-w-ne-NOT_ASKED c = record { answer = asked_before _ _ _ _ _ _ _ _ c.requires c.if-at-w.false c.if-at-w-ne-NOT_ASKED.true }
+returns-then-at-w-ne-NOT_ASKED c = record { answer = asked_before _ _ _ _ _ c.requires c.if-at-w.false c.if-at-w-ne-NOT_ASKED.true }
 
 pub returns-then-stands_at : goal.returns-then-stands_at
-returns-then-stands_at c = record { answer = asked_yes _ _ _ _ _ _ _ _ c.requires c.if-at-w.false _ c.stands_at-2.ensures.answer c.if-stands_at.true }
+returns-then-stands_at c = record { answer = asked_yes _ _ _ _ _ c.requires c.if-at-w.false _ c.stands_at-2.ensures.answer c.if-stands_at.true }
 
 pub returns : goal.returns
-returns c = record { answer = asked_no _ _ _ _ _ _ _ _ c.requires c.if-at-w.false _ c.stands_at-2.ensures.answer c.if-stands_at.false }
+returns c = record { answer = asked_no _ _ _ _ _ c.requires c.if-at-w.false _ c.stands_at-2.ensures.answer c.if-stands_at.false }

@@ -1,5 +1,4 @@
 -- `stands_at` meets its contract. The invariant: none of the edges passed, those from i on, leads to the colour.
--- The measure: i, which each turn lowers by one.
 use Prim.Native.Nat.{◌≤◌}
 use mathlib.Core.Path.{◌≡◌}
 use mathlib.Core.Bool.{false}
@@ -8,7 +7,4 @@ use Rattle.color_marks.specs.Marks.{stands_at}
 use Rattle.color_marks.proofs.stands_at.Given as goal
 
 abbrev pub invariant-loop-i : goal.invariant-loop-i
-invariant-loop-i l = (l.i ≤ length l.edges) × (stands_at l.kind l.ends l.colors l.color.0 l.node.0 (drop l.i l.edges) ≡ false)
-
-abbrev pub decreases-loop-i : goal.decreases-loop-i
-decreases-loop-i l = l.i
+invariant-loop-i l = stands_at l.items.kind l.items.table.ends.now l.colors l.color.0 l.node.0 (drop l.i l.edges) ≡ false
