@@ -13,9 +13,11 @@ use native.Mathlib.Nat.{le_refl}
 use lib.Dec.{eqb, ltb}
 use Rattle.lists.proofs.MemberLaws.{map_append, dec_mem, mem_get_or}
 use Rattle.items.specs.declared.Kind.{Kind}
+use Rattle.color_marks.specs.declared.Note.{Note}
+use Rattle.color_marks.specs.declared.Note.TheVariants.{NotAsked, Absent, Stands}
 use Rattle.items.specs.declared.table.Items.{Items}
 use Rattle.items.specs.Items.{first_node, second_node, across_of}
-use Rattle.color_marks.specs.Marks.{across_all, along, around, stored, has_color, stands_at, stands, mark_of, Asked, used_marks}
+use Rattle.color_marks.specs.Marks.{across_all, along, around, stored, has_color, stands_at, stands, mark_of, says_stands, Asked, used_marks}
 use Rattle.lists.specs.Member.{Mem, elem}
 use Rattle.lists.proofs.Tests.{and_true, and_false, or_true, true_or, dec_eq}
 use Rattle.graph.specs.Colored.{color_of}
@@ -149,32 +151,32 @@ module _ (kind : Kind) (ends colors : List ℕ) (c w : ℕ) where
 module _ (items : Items) (colors : List ℕ) (c : ℕ) where
   -- ---- as the code asks
 
-  pub asked_none : Asked items colors c (replicate 512 0)
-  asked_none = record { answer = λ w h n. absurd (n (get_or-replicate 512 w 0 0 (rw (length-replicate {A = ℕ} 512 0) at h))) }
+  pub asked_none : Asked items colors c (replicate 512 NotAsked)
+  asked_none = record { answer = λ w h n. absurd (n (get_or-replicate 512 w NotAsked NotAsked (rw (length-replicate {A = Note} 512 NotAsked) at h))) }
 
-  asked_more : (at : List ℕ) (w x : ℕ) → Asked items colors c at → w < length at → eqb x 2 ≡ stands items colors c w → Asked items colors c (set at w x)
+  asked_more : (at : List Note) (w : ℕ) (x : Note) → Asked items colors c at → w < length at → says_stands x ≡ stands items colors c w → Asked items colors c (set at w x)
   asked_more at w x p h e = record {
     answer = λ u b n. elim (dec_eq u w) [
-      | inl z ↦ rw (z, get_or-set_same at w x 0 h) e
-      | inr z ↦ rw (get_or-set_other at w u x 0 z) (p.answer u (omega (arith, length-set at w x)) (rw (get_or-set_other at w u x 0 z) at n))
+      | inl z ↦ rw (z, get_or-set_same at w x NotAsked h) e
+      | inr z ↦ rw (get_or-set_other at w u x NotAsked z) (p.answer u (omega (arith, length-set at w x)) (rw (get_or-set_other at w u x NotAsked z) at n))
     ];
   }
 
-  pub asked_outside : (at : List ℕ) (w : ℕ) → Asked items colors c at → (r : Bool) → r ≡ stands_at items.kind items.table.ends.now colors c w (stretch items.table.starts.now items.table.entries.now w) → (r ≡ stands items colors c w) × Asked items colors c at
+  pub asked_outside : (at : List Note) (w : ℕ) → Asked items colors c at → (r : Bool) → r ≡ stands_at items.kind items.table.ends.now colors c w (stretch items.table.starts.now items.table.entries.now w) → (r ≡ stands items colors c w) × Asked items colors c at
   unfolding stands
   asked_outside at w p r q = (q, p)
 
-  pub asked_before : (at : List ℕ) (w : ℕ) → Asked items colors c at → w < length at → (get_or at w 0 ≡ 0 → ⊥) → (eqb (get_or at w 0) 2 ≡ stands items colors c w) × Asked items colors c at
-  asked_before at w p h n = (p.answer w h n, p)
+  pub asked_before : (at : List Note) (w : ℕ) (x : Note) → Asked items colors c at → w < length at → get_or at w NotAsked ≡ x → (x ≡ NotAsked → ⊥) → (says_stands x ≡ stands items colors c w) × Asked items colors c at
+  asked_before at w x p h e n = (ap says_stands (sym e) ∙ p.answer w h (λ z. n (sym e ∙ z)), p)
 
-  module _ (at : List ℕ) (w : ℕ) (p : Asked items colors c at) (h : w < length at) (r : Bool) (q : r ≡ stands_at items.kind items.table.ends.now colors c w (stretch items.table.starts.now items.table.entries.now w)) where
-    pub asked_yes : r ≡ true → (true ≡ stands items colors c w) × Asked items colors c (set at w 2)
+  module _ (at : List Note) (w : ℕ) (p : Asked items colors c at) (h : w < length at) (r : Bool) (q : r ≡ stands_at items.kind items.table.ends.now colors c w (stretch items.table.starts.now items.table.entries.now w)) where
+    pub asked_yes : r ≡ true → (true ≡ stands items colors c w) × Asked items colors c (set at w Stands)
     unfolding stands
-    asked_yes t = (sym t ∙ q, asked_more at w 2 p h (sym t ∙ q))
+    asked_yes t = (sym t ∙ q, asked_more at w Stands p h (sym t ∙ q))
 
-    pub asked_no : r ≡ false → (false ≡ stands items colors c w) × Asked items colors c (set at w 1)
+    pub asked_no : r ≡ false → (false ≡ stands items colors c w) × Asked items colors c (set at w Absent)
     unfolding stands
-    asked_no t = (sym t ∙ q, asked_more at w 1 p h (sym t ∙ q))
+    asked_no t = (sym t ∙ q, asked_more at w Absent p h (sym t ∙ q))
 
   module _ (v : ℕ) where
     pub mark_outside : length colors ≤ v → 0 ≡ mark_of items colors c v

@@ -1,10 +1,12 @@
 -- The marks of the items around one: 1 to those without a colour that have the colour on a neighbour.
-use Rattle.std.specs.Prelude.{ℕ, ◌<◌, List, ◌++◌, map, [], ◌∷◌, cond, Bool, false, ◌&&◌, ◌||◌, eqb, ltb, set, length, get_or, ◌≡◌, ◌≢◌}
+use Rattle.std.specs.Prelude.{ℕ, ◌<◌, List, ◌++◌, map, [], ◌∷◌, cond, Bool, true, false, ◌&&◌, ◌||◌, eqb, ltb, set, length, get_or, ◌≡◌, ◌≢◌}
 use Rattle.graph.specs.Stretch.{stretch}
 use Rattle.items.specs.declared.Kind.{Kind}
 use Rattle.items.specs.declared.table.Items.{Items}
 use Rattle.items.specs.Items.{first_node, second_node, across_of}
 use Rattle.graph.specs.Color.{no_color}
+use Rattle.color_marks.specs.declared.Note.{Note}
+use Rattle.color_marks.specs.declared.Note.TheVariants.{NotAsked, Absent, Stands}
 use Rattle.lists.specs.Member.{elem}
 
 -- ---- The items to which the edges at an item's nodes lead: its neighbours, and an edge itself.
@@ -42,6 +44,12 @@ module _ (kind : Kind) (ends colors : List ℕ) (c w : ℕ) where
   stands_at [] = false
   stands_at (k ∷ ks) = has_color colors c (across_of kind ends k w) || stands_at ks
 
+-- What a note says, if it says anything.
+abbrev pub says_stands : Note → Bool
+says_stands NotAsked = false
+says_stands Absent = false
+says_stands Stands = true
+
 -- ---- The marks of the items to which a colour is not new: it stands at one of their nodes.
 
 module _ (items : Items) (colors : List ℕ) (c : ℕ) where
@@ -53,9 +61,9 @@ module _ (items : Items) (colors : List ℕ) (c : ℕ) where
   unfoldable pub mark_of : ℕ → ℕ
   mark_of v = cond (has_color colors no_color v) (cond (stands (first_node items.kind items.table.ends.now v) || stands (second_node items.kind items.table.ends.now v)) 1 0) 0
 
-  -- What is noted of each node: nothing, 0, or whether the colour stands there, 2 for yes.
-  pub record Asked (at : List ℕ) : Type 0 where
-    pub answer : (w : ℕ) → w < length at → get_or at w 0 ≢ 0 → eqb (get_or at w 0) 2 ≡ stands w
+  -- What is noted of each node: nothing, or whether the colour stands there.
+  pub record Asked (at : List Note) : Type 0 where
+    pub answer : (w : ℕ) → w < length at → get_or at w NotAsked ≢ NotAsked → says_stands (get_or at w NotAsked) ≡ stands w
 
 -- ---- The marks are set if some item has the colour.
 

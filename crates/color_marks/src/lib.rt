@@ -10,17 +10,12 @@ ghost use Rattle.color_marks.specs.Marks.{stands_at, across_all, around, stored,
 use graph::{Color, EdgeIndex, Graph, NodeIndex};
 use items::Items;
 
-// What is noted of a node in a turn.
+// What is noted of a node in a turn: that it was not asked yet, or whether the colour stands there.
 #[derive(Clone, Copy)]
-struct Note(pub u8);
-
-impl Note {
-    const NOT_ASKED: u8 = 0;
-
-    // The colour does not stand there, or it does.
-    const ABSENT: u8 = 1;
-
-    const STANDS: u8 = 2;
+enum Note {
+    NotAsked,
+    Absent,
+    Stands,
 }
 
 // Whether an edge at the node leads to an item that has the colour. In each of its two groups a node's edges stand newest first, and
@@ -42,7 +37,7 @@ fn stands_at(items: Items<'_>, colors: &[u16], node: NodeIndex, color: Color) ->
 }
 
 // Whether the colour stands at the node, and a note of the answer.
-fn ask(items: Items<'_>, colors: &[u16], color: Color, at: &mut [u8], node: NodeIndex) -> bool
+fn ask(items: Items<'_>, colors: &[u16], color: Color, at: &mut [Note], node: NodeIndex) -> bool
     requires { Asked items colors.now color.0 at.old }
     ensures answer { let items = items.entry in let colors = colors.entry.now in
         (result ≡ stands items colors color.0 node.0) × Asked items colors color.0 at.new }
@@ -51,19 +46,21 @@ fn ask(items: Items<'_>, colors: &[u16], color: Color, at: &mut [u8], node: Node
     if at.len() <= w {
         return stands_at(items, colors, node, color);
     }
-    if at[w] != Note::NOT_ASKED {
-        return at[w] == Note::STANDS;
+    match at[w] {
+        Note::Stands => return true,
+        Note::Absent => return false,
+        Note::NotAsked => {}
     }
     if stands_at(items, colors, node, color) {
-        at[w] = Note::STANDS;
+        at[w] = Note::Stands;
         return true;
     }
-    at[w] = Note::ABSENT;
+    at[w] = Note::Absent;
     false
 }
 
 // The mark of an item: 1 if it has no colour and the colour stands at one of its nodes.
-fn item_mark(items: Items<'_>, colors: &[u16], color: Color, at: &mut [u8], item: NodeIndex) -> u8
+fn item_mark(items: Items<'_>, colors: &[u16], color: Color, at: &mut [Note], item: NodeIndex) -> u8
     requires { Asked items colors.now color.0 at.old }
     ensures answer { let items = items.entry in let colors = colors.entry.now in
         (result ≡ mark_of items colors color.0 item.0) × Asked items colors color.0 at.new }
@@ -92,7 +89,7 @@ fn mark_along(
     edges: &[u16],
     colors: &[u16],
     color: Color,
-    at: &mut [u8],
+    at: &mut [Note],
     marks: &mut [u8],
     node: NodeIndex,
 )
@@ -117,7 +114,7 @@ fn mark_known(items: Items<'_>, colors: &[u16], color: Color, marks: &mut [u8], 
     ensures marks { let items = items.entry in let colors = colors.entry.now in let marks₀ = marks.old in
         marks.new ≡ stored (mark_of items colors color.0) (around items item.0) marks₀ }
 {
-    let mut at = [0u8; Graph::MAX_NODES];
+    let mut at = [Note::NotAsked; Graph::MAX_NODES];
     let first = items.first_node(item);
     let second = items.second_node(item);
     let edges = items.table.edges_at(first);
