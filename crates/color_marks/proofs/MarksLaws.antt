@@ -32,12 +32,12 @@ pub across_more : (kind : Kind) (ends : List ℕ) (w : ℕ) (ks : List ℕ) (i :
 unfolding across_all
 across_more kind ends w ks i h = rw (add-one i, take-suc ks i 0 h) (map_append (λ (k : ℕ). across_of kind ends k w) (take i ks) (get_or ks i 0 ∷ []))
 
-module _ (items : Items) where
-  pub around_one : (v a b : ℕ) → a ≡ first_node items.kind items.table.ends.now v → b ≡ second_node items.kind items.table.ends.now v → a ≡ b → around items v ≡ along items a
+module _ (kind : Kind) (ends starts entries : List ℕ) where
+  pub around_one : (v a b : ℕ) → a ≡ first_node kind ends v → b ≡ second_node kind ends v → a ≡ b → around kind ends starts entries v ≡ along kind ends starts entries a
   unfolding around
   around_one v a b p q e = rw (← p, ← q, eq-eqb a b e)
 
-  pub around_two : (v a b : ℕ) → a ≡ first_node items.kind items.table.ends.now v → b ≡ second_node items.kind items.table.ends.now v → (a ≡ b → ⊥) → around items v ≡ along items a ++ along items b
+  pub around_two : (v a b : ℕ) → a ≡ first_node kind ends v → b ≡ second_node kind ends v → (a ≡ b → ⊥) → around kind ends starts entries v ≡ along kind ends starts entries a ++ along kind ends starts entries b
   unfolding around
   around_two v a b p q n = rw (← p, ← q, ne_eqb a b n)
 
@@ -205,20 +205,20 @@ module _ (items : Items) (colors : List ℕ) (c : ℕ) where
           mark_neither t = sym (bare_mark ∙ rw (← p, ← q, ← x, ← y, f, t))
 
 -- The items around item v get their marks, those along the edges at its first node and then at its second.
-module _ (items : Items) (v a b : ℕ) (p : a ≡ first_node items.kind items.table.ends.now v) (q : b ≡ second_node items.kind items.table.ends.now v) where
-  module _ (f : ℕ → ℕ) (edges : List ℕ) (x : edges ≡ stretch items.table.starts.now items.table.entries.now a) (marks₀ marks : List ℕ) (m : marks ≡ stored f (across_all items.kind items.table.ends.now a edges) marks₀) where
-    pub around_stored : a ≡ b → marks ≡ stored f (around items v) marks₀
+module _ (kind : Kind) (ends starts entries : List ℕ) (v a b : ℕ) (p : a ≡ first_node kind ends v) (q : b ≡ second_node kind ends v) where
+  module _ (f : ℕ → ℕ) (edges : List ℕ) (x : edges ≡ stretch starts entries a) (marks₀ marks : List ℕ) (m : marks ≡ stored f (across_all kind ends a edges) marks₀) where
+    pub around_stored : a ≡ b → marks ≡ stored f (around kind ends starts entries v) marks₀
     unfolding along
-    around_stored e = rw (around_one items v a b p q e, ← x) m
+    around_stored e = rw (around_one kind ends starts entries v a b p q e, ← x) m
 
-    pub both_stored : (a ≡ b → ⊥) → (others : List ℕ) → others ≡ stretch items.table.starts.now items.table.entries.now b → (marks' : List ℕ) → marks' ≡ stored f (across_all items.kind items.table.ends.now b others) marks → marks' ≡ stored f (around items v) marks₀
+    pub both_stored : (a ≡ b → ⊥) → (others : List ℕ) → others ≡ stretch starts entries b → (marks' : List ℕ) → marks' ≡ stored f (across_all kind ends b others) marks → marks' ≡ stored f (around kind ends starts entries v) marks₀
     unfolding along
-    both_stored n others y marks' m' = rw (around_two items v a b p q n, ← x, ← y, stored_append f (across_all items.kind items.table.ends.now a edges) (across_all items.kind items.table.ends.now b others) marks₀, ← m) m'
+    both_stored n others y marks' m' = rw (around_two kind ends starts entries v a b p q n, ← x, ← y, stored_append f (across_all kind ends a edges) (across_all kind ends b others) marks₀, ← m) m'
 
 -- ---- the marks of a colour that is used
 
 module _ (items : Items) (colors : List ℕ) (c v : ℕ) (marks : List ℕ) where
-  pub used_yes : elem c colors ≡ true → (used_marks items colors c v marks) ≡ stored (mark_of items colors c) (around items v) marks
+  pub used_yes : elem c colors ≡ true → (used_marks items colors c v marks) ≡ stored (mark_of items colors c) (around items.kind items.table.ends.now items.table.starts.now items.table.entries.now v) marks
   unfolding used_marks
   used_yes t = rw t
 
@@ -227,7 +227,7 @@ module _ (items : Items) (colors : List ℕ) (c v : ℕ) (marks : List ℕ) wher
   used_no f = rw f
 
   -- As the code asks.
-  pub used_marked : (after : List ℕ) → after ≡ stored (mark_of items colors c) (around items v) marks → (r : Bool) → r ≡ elem c colors → r ≡ true → after ≡ used_marks items colors c v marks
+  pub used_marked : (after : List ℕ) → after ≡ stored (mark_of items colors c) (around items.kind items.table.ends.now items.table.starts.now items.table.entries.now v) marks → (r : Bool) → r ≡ elem c colors → r ≡ true → after ≡ used_marks items colors c v marks
   used_marked after e r p t = e ∙ sym (used_yes (sym p ∙ t))
 
   pub unused_kept : (r : Bool) → r ≡ elem c colors → r ≡ false → marks ≡ used_marks items colors c v marks

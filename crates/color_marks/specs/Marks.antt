@@ -15,14 +15,14 @@ use Rattle.lists.specs.Member.{elem}
 unfoldable pub across_all : Kind → List ℕ → ℕ → List ℕ → List ℕ
 across_all kind ends w ks = map (λ (k : ℕ). across_of kind ends k w) ks
 
-module _ (items : Items) where
+module _ (kind : Kind) (ends starts entries : List ℕ) where
   -- The items along the edges at node w.
   unfoldable pub along : ℕ → List ℕ
-  along w = across_all items.kind items.table.ends.now w (stretch items.table.starts.now items.table.entries.now w)
+  along w = across_all kind ends w (stretch starts entries w)
 
   -- The items along the edges at the nodes of item v.
   unfoldable pub around : ℕ → List ℕ
-  around v = cond (eqb (first_node items.kind items.table.ends.now v) (second_node items.kind items.table.ends.now v)) (along (first_node items.kind items.table.ends.now v)) (along (first_node items.kind items.table.ends.now v) ++ along (second_node items.kind items.table.ends.now v))
+  around v = cond (eqb (first_node kind ends v) (second_node kind ends v)) (along (first_node kind ends v)) (along (first_node kind ends v) ++ along (second_node kind ends v))
 
 -- ---- A list with a value stored at each of some places, one after the other.
 
@@ -70,4 +70,4 @@ module _ (items : Items) (colors : List ℕ) (c : ℕ) where
 module _ (items : Items) (colors : List ℕ) (c v : ℕ) (marks : List ℕ) where
   -- The items around item v get their marks if some item has the colour; one that none has is new to all, and the marks stay.
   unfoldable pub used_marks : List ℕ
-  used_marks = cond (elem c colors) (stored (mark_of items colors c) (around items v) marks) marks
+  used_marks = cond (elem c colors) (stored (mark_of items colors c) (around items.kind items.table.ends.now items.table.starts.now items.table.entries.now v) marks) marks

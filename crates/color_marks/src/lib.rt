@@ -112,7 +112,7 @@ fn mark_along(
 // The items around the item get their marks, each where it has a place: 1 to those without a colour that have this one on a neighbour.
 fn mark_known(items: Items<'_>, colors: &[u16], color: Color, marks: &mut [u8], item: NodeIndex)
     ensures marks { let items = items.entry in let colors = colors.entry.now in let marks₀ = marks.old in
-        marks.new ≡ stored (mark_of items colors color.0) (around items item.0) marks₀ }
+        marks.new ≡ stored (mark_of items colors color.0) (around items.kind items.table.ends.now items.table.starts.now items.table.entries.now item.0) marks₀ }
 {
     let mut at = [Note::NotAsked; Graph::MAX_NODES];
     let first = items.first_node(item);

@@ -10,7 +10,7 @@ pub mark_along-requires-then-ne : goal.mark_along-requires-then-ne
 mark_along-requires-then-ne c = c.mark_along.ensures.asked
 
 pub returns-then-ne : goal.returns-then-ne
-returns-then-ne c = record { marks = both_stored _ _ _ _ c.first_node-first.ensures.answer c.second_node-second.ensures.answer _ _ c.edges_at-edges.ensures.contents _ _ c.mark_along.ensures.marks (λ e. search (rules, e)) _ c.edges_at-others.ensures.contents _ c.mark_along-then-ne.ensures.marks }
+returns-then-ne c = record { marks = both_stored _ _ _ _ _ _ _ c.first_node-first.ensures.answer c.second_node-second.ensures.answer _ _ c.edges_at-edges.ensures.contents _ _ c.mark_along.ensures.marks (λ e. search (rules, e)) _ c.edges_at-others.ensures.contents _ c.mark_along-then-ne.ensures.marks }
 
 pub returns-else-ne : goal.returns-else-ne
-returns-else-ne c = record { marks = around_stored _ _ _ _ c.first_node-first.ensures.answer c.second_node-second.ensures.answer _ _ c.edges_at-edges.ensures.contents _ _ c.mark_along.ensures.marks (search rules) }
+returns-else-ne c = record { marks = around_stored _ _ _ _ _ _ _ c.first_node-first.ensures.answer c.second_node-second.ensures.answer _ _ c.edges_at-edges.ensures.contents _ _ c.mark_along.ensures.marks (search rules) }
