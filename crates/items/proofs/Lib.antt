@@ -1,3 +1,4 @@
 -- Laws of what specs/ defines.
 pub mod CallLaws
 pub mod ItemsLaws
+pub mod TableLaws

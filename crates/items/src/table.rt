@@ -19,6 +19,7 @@ impl<'a> Items<'a> {
     ghost use Rattle.items.specs.Items.{first_node, second_node, across_of, neighbor_count, free_color};
 
     pub fn new(kind: Kind, table: IncidenceTable<'a>) -> Items<'a>
+        ensures count { let table = table.entry in result.count ≡ items_of kind table.nodes table.ends.now }
         ensures same { (result.kind ≡ kind) × (result.table ≡ table.entry) }
     {
         let count = match kind {

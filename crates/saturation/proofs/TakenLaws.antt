@@ -17,10 +17,11 @@ use Rattle.graph.specs.Colored.{color_of, is_colored, colored_among}
 use Rattle.graph.proofs.ColorLaws.{color_read, color_set_same, color_set_other, uncolored_false, color_outside}
 use Rattle.greedy.specs.Greedy.{Neighborhood}
 use Rattle.greedy.specs.Saturation.{saturation, uncolored_neighbors, uncolored_among}
-use Rattle.items.specs.declared.Kind.{Kind}
-use Rattle.items.specs.Items.{neighbors_of, Tabled}
+use Rattle.items.specs.declared.table.Items.{Items}
+use Rattle.items.specs.Items.{Tabled}
+use Rattle.items.proofs.TableLaws.{sized_as, tabled_as}
 use Rattle.items.proofs.ItemsLaws.{neighborhood, items_few}
-use Rattle.saturation.specs.Counts.{BothCounted, Cleared, Noted, NotesRoom, CountsReady, Started, Preset}
+use Rattle.saturation.specs.Counts.{BothCounted, Cleared, Noted, NotesRoom, neighbors_in, CountsReady, Started, Preset}
 use Rattle.saturation.proofs.CountsLaws.{colors_among, count_mem, mem_count, different_few, uncolored_falls, different_stays, different_grows, Known, known}
 use Rattle.saturation.proofs.NotesLaws.{none_noted, around_times}
 use Rattle.color_marks.specs.Marks.{around, stored, mark_of}
@@ -132,47 +133,50 @@ none_taken colors v c h e p = let q : get_or colors v 0 ≡ c = color_read color
 
 -- ---- the state between two turns
 
-module _ (kind : Kind) (n : ℕ) (ends starts entries colors s₀ w₀ : List ℕ) (v c : ℕ) (ready : CountsReady kind n ends starts entries colors s₀ w₀) (inside : v < length colors) (bare : color_of colors v ≡ no_color)
+module _ (items : Items) (colors s₀ w₀ : List ℕ) (v c : ℕ) (ready : CountsReady items colors s₀ w₀) (inside : v < length colors) (bare : color_of colors v ≡ no_color)
     (real : c ≡ no_color → ⊥) where
-  abbrev hood : Neighborhood (neighbors_of kind n ends) (length colors)
-  hood = neighborhood kind n ends (length colors) ready.tabled.sized
+  abbrev hood : Neighborhood (neighbors_in items) (length colors)
+  hood = neighborhood items.kind items.table.nodes items.table.ends.now (length colors) (sized_as items (length colors) ready.size)
 
   abbrev us : List ℕ
-  us = around kind ends starts entries v
+  us = around items.kind items.table.ends.now items.table.starts.now items.table.entries.now v
 
-  -- What noting the colour needs: the graph, room in the counts, and lists that are long enough.
-  pub take_tabled : Tabled kind n ends starts entries (length (set colors v c))
-  take_tabled = rw (length-set colors v c) ready.tabled
+  -- What noting the colour needs: a colour for each item, room in the counts, and lists that are long enough.
+  pub take_size : length (set colors v c) ≡ items.count
+  take_size = length-set colors v c ∙ ready.size
+
+  tabled : Tabled items.kind items.table.nodes items.table.ends.now items.table.starts.now items.table.entries.now (length colors)
+  tabled = tabled_as items (length colors) ready.size
 
   pub take_inside : v < length (set colors v c)
   take_inside = rw (length-set colors v c) inside
 
   pub take_room : (m₀ : List ℕ) → NotesRoom (set colors v c) us s₀ w₀ m₀
-  take_room = taken_room (neighbors_of kind n ends) (length colors) hood colors s₀ w₀ us v c refl ready.counted inside bare real (λ u d. around_times kind n ends starts entries (length colors) ready.tabled v u inside d)
+  take_room = taken_room (neighbors_in items) (length colors) hood colors s₀ w₀ us v c refl ready.counted inside bare real (λ u d. around_times items.kind items.table.nodes items.table.ends.now items.table.starts.now items.table.entries.now (length colors) tabled v u inside d)
 
   pub take_sizes : (m : List ℕ) → length colors ≤ length m → (length (set colors v c) ≤ length s₀) × (length (set colors v c) ≤ length w₀) × (length (set colors v c) ≤ length m)
   take_sizes m h = rw (length-set colors v c) (ready.saturations_room, ready.waiting_room, h)
 
   -- The counts afterwards, those of v cleared.
-  pub take_ready : (m₀ s w m : List ℕ) → Known us (neighbors_of kind n ends) colors c m₀ → Noted (set colors v c) us s₀ w₀ m₀ s w m
-      → length s ≡ length s₀ → length w ≡ length w₀ → CountsReady kind n ends starts entries (set colors v c) (set s v 0) (set w v 0)
+  pub take_ready : (m₀ s w m : List ℕ) → Known us (neighbors_in items) colors c m₀ → Noted (set colors v c) us s₀ w₀ m₀ s w m
+      → length s ≡ length s₀ → length w ≡ length w₀ → CountsReady items (set colors v c) (set s v 0) (set w v 0)
   take_ready m₀ s w m known noted ls lw =
-      let counts = taken_counted (neighbors_of kind n ends) (length colors) hood colors s₀ w₀ us v c refl ready.counted inside bare real (λ u d. around_times kind n ends starts entries (length colors) ready.tabled v u inside d) m₀ s w m known noted in
+      let counts = taken_counted (neighbors_in items) (length colors) hood colors s₀ w₀ us v c refl ready.counted inside bare real (λ u d. around_times items.kind items.table.nodes items.table.ends.now items.table.starts.now items.table.entries.now (length colors) tabled v u inside d) m₀ s w m known noted in
       record {
-        tabled = take_tabled;
-        counted = rw (length-set colors v c) (clear_counted (neighbors_of kind n ends) (length colors) (set colors v c) s w v counts (λ e. real (sym (color_set_same colors v c inside) ∙ e)));
+        size = take_size;
+        counted = rw (length-set colors v c) (clear_counted (neighbors_in items) (length colors) (set colors v c) s w v counts (λ e. real (sym (color_set_same colors v c inside) ∙ e)));
         cleared = clear_cleared colors us s₀ w₀ m₀ s w m v c ready.cleared noted (omega (arith, inside, ready.saturations_room)) (omega (arith, inside, ready.waiting_room));
         saturations_room = omega (arith, ready.saturations_room, length-set colors v c, length-set s v 0);
         waiting_room = omega (arith, ready.waiting_room, length-set colors v c, length-set w v 0);
       }
 
   -- The same where v waits for no neighbour: only its own counts are cleared.
-  pub take_idle : get_or w₀ v 0 ≡ 0 → CountsReady kind n ends starts entries (set colors v c) (set s₀ v 0) w₀
+  pub take_idle : get_or w₀ v 0 ≡ 0 → CountsReady items (set colors v c) (set s₀ v 0) w₀
   take_idle z =
-      let m = stored (mark_of kind ends starts entries colors c) us (replicate 4096 0) in
-      let noted = idle_noted (neighbors_of kind n ends) (length colors) hood colors s₀ w₀ us v c refl ready.counted inside bare real (λ u d. around_times kind n ends starts entries (length colors) ready.tabled v u inside d) z m in
-      let marks = known kind n ends starts entries colors c ready.tabled real us (replicate 4096 0) m (omega (arith, length-replicate {A = ℕ} 4096 0)) refl in
-      subst (CountsReady kind n ends starts entries (set colors v c) (set s₀ v 0)) (ap (set w₀ v) (sym z) ∙ set-get_or w₀ v 0) (take_ready m s₀ w₀ m marks noted refl refl)
+      let m = stored (mark_of items colors c) us (replicate 4096 0) in
+      let noted = idle_noted (neighbors_in items) (length colors) hood colors s₀ w₀ us v c refl ready.counted inside bare real (λ u d. around_times items.kind items.table.nodes items.table.ends.now items.table.starts.now items.table.entries.now (length colors) tabled v u inside d) z m in
+      let marks = known items colors c ready.size real us (replicate 4096 0) m (omega (arith, length-replicate {A = ℕ} 4096 0)) refl in
+      subst (CountsReady items (set colors v c) (set s₀ v 0)) (ap (set w₀ v) (sym z) ∙ set-get_or w₀ v 0) (take_ready m s₀ w₀ m marks noted refl refl)
 
 -- ---- the start
 
@@ -193,6 +197,9 @@ started_more nb colors waiting v x p h k q = record {
 
 pub started_all : (nb : ℕ → List ℕ) (colors waiting : List ℕ) (v n : ℕ) → Started nb v colors waiting → v ≤ n → n ≤ v → Started nb n colors waiting
 started_all nb colors waiting v n p h k = let e : v ≡ n = omega arith in rw e at p
+
+pub started_as : (nb : ℕ → List ℕ) (colors waiting : List ℕ) (n m : ℕ) → Started nb n colors waiting → n ≡ m → Started nb m colors waiting
+started_as nb colors waiting n m p e = rw e at p
 
 none_colored : (colors us : List ℕ) → ((u : ℕ) → color_of colors u ≡ no_color) → colored_among colors us ≡ []
 unfolding colored_among
@@ -221,14 +228,14 @@ pub zero_at : (n v : ℕ) → ◌≡◌ {A = ℕ} (get_or (replicate n 0) v 0) 0
 zero_at n v = elim (dec_lt v n) [ yes h ↦ get_or-replicate n v 0 0 h | no h ↦ get_or-eq_default (replicate n 0) 0 (rw (length-replicate {A = ℕ} n 0) (omega arith)) ]
 
 -- The counts are ready for the presets.
-pub started_ready : (kind : Kind) (n : ℕ) (ends starts entries : List ℕ) (items : ℕ) (colors saturations waiting : List ℕ) → Tabled kind n ends starts entries items
-    → length colors ≡ items → saturations ≡ replicate 4096 0 → length waiting ≡ 4096 → Started (neighbors_of kind n ends) items colors waiting → CountsReady kind n ends starts entries colors saturations waiting
-started_ready kind n ends starts entries items colors saturations waiting tabled size zeros room started =
-    let few = items_few kind n ends items tabled.sized in
+pub started_ready : (items : Items) (colors saturations waiting : List ℕ) → length colors ≡ items.count → saturations ≡ replicate 4096 0 → length waiting ≡ 4096
+    → Started (neighbors_in items) (length colors) colors waiting → CountsReady items colors saturations waiting
+started_ready items colors saturations waiting size zeros room started =
+    let few = items_few items.kind items.table.nodes items.table.ends.now (length colors) (sized_as items (length colors) size) in
     record {
-      tabled = rw size tabled;
-      counted = rw size (started_counted (neighbors_of kind n ends) items colors saturations waiting size started (λ v. ap (λ (l : List ℕ). get_or l v 0) zeros ∙ zero_at 4096 v));
-      cleared = record { counts = λ v d. absurd (d (started_bare (neighbors_of kind n ends) items colors waiting size started v)) };
+      size = size;
+      counted = started_counted (neighbors_in items) (length colors) colors saturations waiting refl started (λ v. ap (λ (l : List ℕ). get_or l v 0) zeros ∙ zero_at 4096 v);
+      cleared = record { counts = λ v d. absurd (d (started_bare (neighbors_in items) (length colors) colors waiting refl started v)) };
       saturations_room = omega (arith, few, ap length zeros ∙ length-replicate {A = ℕ} 4096 0);
       waiting_room = omega (arith, few);
     }

@@ -21,10 +21,10 @@ use Rattle.greedy.proofs.SaturationLaws.{greatest_member}
 use Rattle.std.specs.Prelude.{Option, Some, None}
 use Rattle.choice.specs.Choice.{option_of, choice_of}
 use Rattle.choice.proofs.ChoiceLaws.{Best, some_best, none_bare}
-use Rattle.items.specs.declared.Kind.{Kind}
-use Rattle.items.specs.Items.{neighbors_of}
+use Rattle.items.specs.declared.table.Items.{Items}
+use Rattle.items.proofs.TableLaws.{sized_as}
 use Rattle.items.proofs.ItemsLaws.{items_few}
-use Rattle.saturation.specs.Counts.{BothCounted, CountsReady, turn_of}
+use Rattle.saturation.specs.Counts.{BothCounted, neighbors_in, CountsReady, turn_of}
 
 -- What the counts choose is what the definition chooses.
 
@@ -118,16 +118,16 @@ module _ (nb : ℕ → List ℕ) (colors saturations waiting : List ℕ) (counte
       ]
 
 -- The choice between two turns.
-module _ (kind : Kind) (n : ℕ) (ends starts entries colors saturations waiting : List ℕ) (ready : CountsReady kind n ends starts entries colors saturations waiting)
+module _ (items : Items) (colors saturations waiting : List ℕ) (ready : CountsReady items colors saturations waiting)
     (choice : Option NodeIndex) (said : option_of choice ≡ choice_of colors saturations waiting) where
   few : length colors ≤ 4096
-  few = items_few kind n ends (length colors) ready.tabled.sized
+  few = items_few items.kind items.table.nodes items.table.ends.now (length colors) (sized_as items (length colors) ready.size)
 
   pub chosen_none : choice ≡ None → uncolored colors (length colors) ≡ []
   chosen_none e = none_uncolored colors (length colors) (none_bare colors saturations waiting few ready.saturations_room ready.waiting_room ready.cleared.counts (sym (ap option_of e) ∙ said))
 
-  pub chosen_next : (v : NodeIndex) → choice ≡ Some v → Leads (neighbors_of kind n ends) colors (length colors) v.0
-  chosen_next v e = best_leads (neighbors_of kind n ends) colors saturations waiting ready.counted v.0 (some_best colors saturations waiting few ready.saturations_room ready.waiting_room v.0 (sym (ap option_of e) ∙ said))
+  pub chosen_next : (v : NodeIndex) → choice ≡ Some v → Leads (neighbors_in items) colors (length colors) v.0
+  chosen_next v e = best_leads (neighbors_in items) colors saturations waiting ready.counted v.0 (some_best colors saturations waiting few ready.saturations_room ready.waiting_room v.0 (sym (ap option_of e) ∙ said))
 
 -- ---- the turns
 

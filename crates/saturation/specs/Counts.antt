@@ -4,8 +4,8 @@ use Rattle.graph.specs.Color.{no_color}
 use Rattle.graph.specs.Colored.{color_of}
 use Rattle.greedy.specs.Saturation.{saturation, uncolored_neighbors, greatest}
 use Rattle.lists.specs.Different.{count}
-use Rattle.items.specs.declared.Kind.{Kind}
-use Rattle.items.specs.Items.{neighbors_of, Tabled}
+use Rattle.items.specs.declared.table.Items.{Items}
+use Rattle.items.specs.Items.{neighbors_of}
 use Rattle.greedy.specs.Turn.{uncolored, color_item}
 
 -- ---- The two counts of the items without a colour.
@@ -56,10 +56,14 @@ pub record Preset (presets : List ℕ) (v : ℕ) (colors : List ℕ) : Type 0 wh
 
 -- ---- the state between two turns
 
--- A graph that passed the checks, with its table, and the counts of its items.
-pub record CountsReady (kind : Kind) (n : ℕ) (ends starts entries colors saturations waiting : List ℕ) : Type 0 where
-  pub tabled : Tabled kind n ends starts entries (length colors)
-  pub counted : BothCounted (neighbors_of kind n ends) (length colors) colors saturations waiting
+-- The neighbours of these items.
+abbrev pub neighbors_in : Items → ℕ → List ℕ
+neighbors_in items = neighbors_of items.kind items.table.nodes items.table.ends.now
+
+-- The counts of a graph's items, one colour for each item.
+pub record CountsReady (items : Items) (colors saturations waiting : List ℕ) : Type 0 where
+  pub size : length colors ≡ items.count
+  pub counted : BothCounted (neighbors_in items) (length colors) colors saturations waiting
   pub cleared : Cleared colors saturations waiting
   pub saturations_room : length colors ≤ length saturations
   pub waiting_room : length colors ≤ length waiting

@@ -9,9 +9,12 @@ returns-in_err-check_items c = let a = c.args in
     let p = err_from_is_err_and c.from_residual.result c.from_residual.ensures.1 in
     let all_parts = call_refused a.kind _ _ a.presets.now a.colors.now _ c.check_items.ensures.report saturation_colors _ c.in_err-check_items.was in record { report = rw (p.1, p.2) all_parts.0; colors = all_parts.1 }
 
+pub invariant_of-graph : goal.invariant_of-graph
+invariant_of-graph c = let a = c.args in record { passed = (call_passed a.kind _ _ a.presets.now a.colors.now _ c.check_items.ensures.report _ c.in_ok-check_items.was).0 }
+
 pub color_checked-requires : goal.color_checked-requires
 color_checked-requires c = let a = c.args in
-    let p = call_passed a.kind _ _ a.presets.now a.colors.now _ c.check_items.ensures.report _ c.in_ok-check_items.was in record { passed = p.0; presets_len = (p.1, p.2) }
+    let p = call_passed a.kind _ _ a.presets.now a.colors.now _ c.check_items.ensures.report _ c.in_ok-check_items.was in record { presets_len = (p.1, p.2) }
 
 pub returns : goal.returns
 returns c = let a = c.args in let all_parts = call_accepted a.kind _ _ a.presets.now a.colors.now _ c.check_items.ensures.report saturation_colors _ c.in_ok-check_items.was _ _ c.color_checked.ensures.colors c.color_checked.ensures.answer in record { report = all_parts.0; colors = all_parts.1 }

@@ -1,14 +1,22 @@
 -- `color_checked` meets its contract: the run, with the table made.
-use mathlib.Core.Path.{refl, sym, ◌∙◌}
+use mathlib.Core.Path.{◌≡◌, refl, sym, ap, ◌∙◌}
 use native.Mathlib.Omega.{arith}
-use borrow.Author.Rules.{rules}
-use Rattle.items.proofs.ItemsLaws.{items_tabled}
-use Rattle.saturation.proofs.TurnsLaws.{from_presets}
+use lib.ListN.{length}
+use Rattle.items.specs.Items.{items_of, neighbors_of}
 use Rattle.saturation.proofs.color_checked.Goals as goal
 
+pub incidence_table-table-requires : goal.incidence_table-table-requires
+incidence_table-table-requires c = record { room = (omega (arith, c.args.graph.passed.nodes), omega (arith, c.args.graph.passed.even, c.args.graph.passed.edges)) }
+
 pub run-requires : goal.run-requires
-run-requires c = let e = c.requires.presets_len.1 in
-    let colors = c.args.colors.now in record { tabled = items_tabled _ _ _ _ _ colors c.requires.passed (c.incidence_front.ensures.made c.requires.passed (omega (arith, c.requires.passed.nodes)) (omega (arith, c.requires.passed.even, c.requires.passed.edges))) e; colors_len = (e ∙ sym c.requires.presets_len.0, refl, refl) }
+run-requires c =
+    let t = c.incidence_table-table.ensures.graph in
+    let count : c.new-items.result.count ≡ items_of c.args.kind c.args.graph.nodes c.args.graph.ends.now = rw (t.0, t.1) at c.new-items.ensures.count in
+    let e = c.requires.presets_len in
+    record { size = e.1 ∙ sym count; colors_len = (e.1 ∙ sym e.0, refl, refl) }
 
 pub returns : goal.returns
-returns c = record { answer = c.days_of.ensures.answer; colors = search (rules, from_presets) }
+returns c =
+    let t = c.incidence_table-table.ensures.graph in
+    let k = c.new-items.ensures.same in
+    record { answer = c.days_of.ensures.answer; colors = rw (k.0, k.1, t.0, t.1, c.requires.presets_len.1) at c.run.ensures.colors }
