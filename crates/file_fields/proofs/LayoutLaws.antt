@@ -19,7 +19,12 @@ use Rattle.file_fields.specs.Layout.{field_there, behind, shown_field, summary_o
 use Rattle.file_layout.proofs.FieldLaws.{first_truncated, first_whole, header_short, fields_then, fields_truncated, fields_cut, none_then, fields_end, fields_more, length_numbers}
 use Rattle.file_fields.specs.declared.fields.FieldPlace.{FieldPlace}
 use Rattle.file_fields.specs.declared.FileSummary.{FileSummary}
-use Rattle.std.specs.Prelude.{Some, None}
+use Rattle.std.specs.Prelude.{Some, None, Result, Ok, Err}
+use Rattle.std.specs.Result.{result_ok}
+use Rattle.graph.specs.declared.Refusal.{Refusal}
+use Rattle.file_fields.specs.declared.method.Method.{Method}
+use Rattle.file_fields.specs.declared.method.Method.TheVariants.{Degree, Saturation, IndependentSet, MisraGries}
+use Rattle.file_fields.specs.Method.{byte_of, NamedBy}
 use Rattle.std.specs.Prelude.{Option as Answer}
 
 -- ---- one field
@@ -111,6 +116,22 @@ summary_is : (o : Option File) (file : File) (values : Summary) → o ≡ some f
 unfolding summary_of bind
 summary_is o file values e s = rw e (ap some (sym s))
 
+-- ---- the byte of a method
+
+byte_most : (way : Method) → byte_of way ≤ 3
+byte_most Degree = omega arith
+byte_most Saturation = omega arith
+byte_most IndependentSet = omega arith
+byte_most MisraGries = omega arith
+
+pub byte_named : (byte : ℕ) (r : Result Method Refusal) (o : Answer Method) → NamedBy byte r → o ≡ result_ok r → (way : Method) → o ≡ Some way → byte ≡ byte_of way
+byte_named byte (Ok x) o named e way q = let z : x ≡ way = cc in named ∙ ap byte_of z
+byte_named byte (Err x) o named e way q = cc
+
+pub byte_above : (byte : ℕ) (r : Result Method Refusal) (o : Answer Method) → NamedBy byte r → o ≡ result_ok r → o ≡ None → 3 < byte
+byte_above byte (Ok x) o named e q = cc
+byte_above byte (Err x) o named e q = named.1
+
 -- ---- after the colours
 
 not_method : (file : File) (field : Field) (fs : List Field) → is_method field ≡ false → after_colors file (field ∷ fs) ≡ none
@@ -160,21 +181,16 @@ module _ (bytes : List ℕ) (at n m : ℕ) where
         unfolding after_colors
         method_more k h file s = no_summary _ (more_behind bytes at r e (after_colors file) p q (inside p q) (λ z. h (omega arith)) (λ field fs. refl))
 
-        pub method_last : p.tag ≡ 4 → p.length ≡ 1 → get_or bytes p.start 0 ≤ 3 → p.start + 1 ≡ length bytes
-            → ColorsAnswer (Some (record { nodes = n; edges = m; tags = 15; method = get_or bytes p.start 0 }))
+        pub method_last : (way : Method) → p.tag ≡ 4 → p.length ≡ 1 → get_or bytes p.start 0 ≡ byte_of way → p.start + 1 ≡ length bytes
+            → ColorsAnswer (Some (record { nodes = n; edges = m; tags = 15; method = Some way }))
         unfolding after_colors is_method field_there with_method summary tag_bit
-        method_last t k b h file s =
+        method_last way t k b h file s =
             let x = the_byte k in
-            let four : get_or byte 0 0 < 4 = omega arith in
+            let four : get_or byte 0 0 < 4 = omega (arith, byte_most way) in
             let whole = last_field bytes at r e (after_colors file) p q (omega arith) in
             let is = simp (eq-eqb p.tag 4 t, eq-eqb (length byte) 1 (field_size bytes p (inside p q) ∙ k), lt-ltb (get_or byte 0 0) 4 four) at whole in
-            summary_is _ (with_method (get_or byte 0 0) file) (n, m, 15, get_or bytes p.start 0) is
-            (ap (λ (u : Summary). (u.0, u.1, u.2 + 8, get_or byte 0 0)) s ∙ ap (λ (u : ℕ). (n, m, 15, u)) x)
-
--- The same for each file.
-pub byte_above : (bytes : List ℕ) (at : ℕ) (r : Answer FieldPlace) → shown_field bytes r ≡ first_field (drop at bytes) → (p : FieldPlace) → r ≡ Some p → FieldInside bytes r
-    → p.length ≡ 1 → 3 < get_or bytes p.start 0 → (file : File) → none ≡ summary_of (bind (fields (drop at bytes)) (after_colors file))
-byte_above bytes at r e p q inside k h file = no_summary _ (wrong_first bytes at r e (after_colors file) p q (λ fs. not_method file (field_there bytes p) fs (above bytes at 0 0 r e p q inside k h)))
+            summary_is _ (with_method (get_or byte 0 0) file) (n, m, 15, byte_of way) is
+            (ap (λ (u : Summary). (u.0, u.1, u.2 + 8, get_or byte 0 0)) s ∙ ap (λ (u : ℕ). (n, m, 15, u)) (x ∙ b))
 
 -- ---- after the ends
 
@@ -204,10 +220,6 @@ module _ (bytes : List ℕ) (at n m : ℕ) where
 
       other_colors : ((file : File) → SaysSoFar n m 3 file → is_colors (edge_count file.ends) (field_there bytes p) ≡ false) → EndsAnswer None
       other_colors b file s = no_summary _ (wrong_first bytes at r e (after_ends file) p q (λ fs. not_colors file (field_there bytes p) fs (b file s)))
-
-      pub colors_tag : (p.tag ≡ 3 → ⊥) → EndsAnswer None
-      unfolding is_colors field_there
-      colors_tag h = other_colors (λ file s. false_and (eqb p.tag 3) _ (ne_eqb p.tag 3 h))
 
       module _ (inside : FieldInside bytes r) where
         pub colors_length : (p.length ≡ 2 * m → ⊥) → EndsAnswer None

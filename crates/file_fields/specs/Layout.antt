@@ -7,6 +7,7 @@ use Rattle.file_layout.specs.File.{File, unnamed}
 use Rattle.file_layout.specs.Outcomes.{Summary, summary}
 use Rattle.file_fields.specs.declared.fields.FieldPlace.{FieldPlace}
 use Rattle.file_fields.specs.declared.FileSummary.{FileSummary}
+use Rattle.file_fields.specs.Method.{method_byte}
 
 -- The field at a place, and the bytes behind it.
 unfoldable pub field_there : List ℕ → FieldPlace → Field
@@ -24,7 +25,7 @@ unfoldable pub summary_of : Option File → Option Summary
 summary_of found = bind found (λ (file : File). some (summary file))
 
 abbrev pub shown_layout : Answer FileSummary → Option Summary
-shown_layout (Some s) = some (s.nodes, s.edges, s.tags, s.method)
+shown_layout (Some s) = some (s.nodes, s.edges, s.tags, method_byte s.method)
 shown_layout None = none
 
 -- What the code knows of a file before its end: what has stood of it so far, and no method yet.

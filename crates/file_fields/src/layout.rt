@@ -16,12 +16,11 @@ fn without_method(nodes: usize, edges: usize, tags: u8) -> FileSummary
         nodes,
         edges,
         tags,
-        method: Method::UNNAMED,
+        method: None,
     }
 }
 
 // What follows the colours: the end, or the field of the method, then the end.
-#[tactic(auto, using(crate::proofs::LayoutLaws::byte_above))]
 fn after_colors(bytes: &[u8], at: usize, nodes: usize, edges: usize) -> Option<FileSummary>
     requires { at ≤ length bytes.now }
     ensures answer { let bytes = bytes.entry.now in
@@ -37,11 +36,7 @@ fn after_colors(bytes: &[u8], at: usize, nodes: usize, edges: usize) -> Option<F
     if field.length != 1 {
         return None;
     }
-    let start = field.start;
-    let method = bytes[start];
-    if method > Method::MISRA_GRIES {
-        return None;
-    }
+    let method = Method::try_from(bytes[field.start]).ok()?;
     if field.start + 1 != bytes.len() {
         return None;
     }
@@ -49,7 +44,7 @@ fn after_colors(bytes: &[u8], at: usize, nodes: usize, edges: usize) -> Option<F
         nodes,
         edges,
         tags: 15,
-        method,
+        method: Some(method),
     })
 }
 

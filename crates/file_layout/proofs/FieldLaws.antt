@@ -1,5 +1,5 @@
 -- Laws of numbers of two bytes and of fields: each is read back from its bytes, and the bytes from it.
-use Prim.Native.Nat.{ℕ, zero, suc, ◌+◌, ◌*◌, ◌≤◌, ◌<◌, ◌%◌, ◌/◌}
+use Prim.Native.Nat.{ℕ, zero, suc, min, ◌+◌, ◌*◌, ◌≤◌, ◌<◌, ◌%◌, ◌/◌}
 use mathlib.Core.Path.{◌≡◌, refl, sym, ap, ap₂, ◌∙◌}
 use mathlib.Core.Bool.{Bool, true, ◌&&◌}
 use mathlib.Core.List.{List, [], ◌∷◌, ◌++◌}
@@ -12,7 +12,7 @@ use lib.Dec.{ltb}
 use Rattle.lists.proofs.Tests.{true_and, by-test}
 use Rattle.lists.specs.Search.{all_below}
 use Rattle.lists.specs.Parts.{copied_over}
-use Rattle.lists.proofs.PartsLaws.{copied_next, copied_full, copied_end}
+use Rattle.lists.proofs.PartsLaws.{copied_next, copied_count}
 use Rattle.lists.proofs.SearchLaws.{all_below_cons, all_below_append}
 use Rattle.file_layout.specs.Fields.{number16, numbers, bytes16, bytes_of, Field, first_field, fields_up_to, fields, field_bytes, fields_bytes}
 use Rattle.file_layout.specs.File.{File}
@@ -80,11 +80,8 @@ module _ (bytes lent list : List ℕ) (i : ℕ) (e : list ≡ take i (numbers by
       let n = length_numbers bytes in
       ap (set list i) (v ∙ sym (numbers_at bytes i (omega arith))) ∙ copied_next (numbers bytes) lent list i e (omega arith) k
 
-  pub numbers_full : i ≤ length lent → length lent ≤ i → i < length bytes / 2 → list ≡ copied_over (numbers bytes) lent
-  numbers_full a b h = let n = length_numbers bytes in copied_full (numbers bytes) lent list i e a b (omega arith)
-
-  pub numbers_end : i ≤ length bytes / 2 → length bytes / 2 ≤ i → i ≤ length lent → list ≡ copied_over (numbers bytes) lent
-  numbers_end a b h = let n = length_numbers bytes in copied_end (numbers bytes) lent list i e (omega arith) (omega arith) h
+  pub numbers_end : i ≡ min (length bytes / 2) (length lent) → list ≡ copied_over (numbers bytes) lent
+  numbers_end h = e ∙ copied_count (numbers bytes) lent (take i (numbers bytes)) i (let n = length_numbers bytes in omega arith) refl
 
 -- ---- laws of fields: where one stands in the bytes, and what follows from the first one
 

@@ -1,7 +1,7 @@
 -- `after_colors` meets its contract: one law for each answer.
 use native.Mathlib.Omega.{arith}
 use Rattle.std.specs.Prelude.{Some}
-use Rattle.file_fields.proofs.LayoutLaws.{colors_end, method_cut, method_tag, method_length, method_more, method_last}
+use Rattle.file_fields.proofs.LayoutLaws.{colors_end, method_cut, method_tag, method_length, method_above, method_more, method_last, byte_named, byte_above}
 use Rattle.file_fields.proofs.layout.after_colors.Goals as goal
 
 pub returns-then-at-bytes : goal.returns-then-at-bytes
@@ -9,12 +9,6 @@ returns-then-at-bytes c = let s = c.args in record { answer = colors_end _ s.at 
 
 pub returns-in_err-field : goal.returns-in_err-field
 returns-in_err-field c = let s = c.args in record { answer = rw c.from_residual.ensures (method_cut _ s.at s.nodes s.edges _ c.field_at.ensures.answer c.in_err-field.was (λ z. omega arith) c.requires) }
-
-pub bounds-bytes-start : goal.bounds-bytes-start
-bounds-bytes-start c = omega (arith, c.field_at.ensures.inside _ c.in_ok-field.was)
-
-pub overflow_add-field : goal.overflow_add-field
-overflow_add-field c = omega (arith, c.field_at.ensures.inside _ c.in_ok-field.was)
 
 pub returns-then-field-ne4 : goal.returns-then-field-ne4
 returns-then-field-ne4 c = let s = c.args in record { answer = method_tag _ s.at s.nodes s.edges _ c.field_at.ensures.answer _ c.in_ok-field.was (λ z. omega arith) }
@@ -25,5 +19,12 @@ returns-then-field-ne1 c = let s = c.args in record { answer = method_length _ s
 pub returns-then-field-bytes : goal.returns-then-field-bytes
 returns-then-field-bytes c = let s = c.args in record { answer = method_more _ s.at s.nodes s.edges _ c.field_at.ensures.answer _ c.in_ok-field.was c.field_at.ensures.inside (omega arith) (λ z. omega arith) }
 
+pub returns-in_err-method : goal.returns-in_err-method
+returns-in_err-method c = let s = c.args in
+    let above = byte_above _ _ _ c.try_from.ensures c.ok.ensures.value c.in_err-method.was in
+    record { answer = rw c.from_residual-in_err-method.ensures (method_above _ s.at s.nodes s.edges _ c.field_at.ensures.answer _ c.in_ok-field.was c.field_at.ensures.inside (omega arith) above) }
+
 pub returns : goal.returns
-returns c = let s = c.args in record { answer = method_last _ s.at s.nodes s.edges _ c.field_at.ensures.answer _ c.in_ok-field.was c.field_at.ensures.inside (omega arith) (omega arith) (omega arith) (omega arith) }
+returns c = let s = c.args in
+    let named = byte_named _ _ _ c.try_from.ensures c.ok.ensures.value _ c.in_ok-method.was in
+    record { answer = method_last _ s.at s.nodes s.edges _ c.field_at.ensures.answer _ c.in_ok-field.was c.field_at.ensures.inside _ (omega arith) (omega arith) named (omega arith) }

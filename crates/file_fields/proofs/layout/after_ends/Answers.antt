@@ -10,12 +10,6 @@ returns-then-at-bytes c = let s = c.args in record { answer = ends_end _ s.at s.
 pub returns-in_err-field : goal.returns-in_err-field
 returns-in_err-field c = let s = c.args in record { answer = rw c.from_residual.ensures (colors_cut _ s.at s.nodes s.edges _ c.field_at.ensures.answer c.in_err-field.was (λ z. omega arith) c.requires.0) }
 
-pub overflow_add-field : goal.overflow_add-field
-overflow_add-field c = omega (arith, c.field_at.ensures.inside _ c.in_ok-field.was)
-
-pub after_colors-requires : goal.after_colors-requires
-after_colors-requires c = c.field_at.ensures.inside _ c.in_ok-field.was
-
 pub returns-then-field-edges : goal.returns-then-field-edges
 returns-then-field-edges c = let s = c.args in record { answer = colors_length _ s.at s.nodes s.edges _ c.field_at.ensures.answer _ c.in_ok-field.was c.field_at.ensures.inside (λ z. omega arith) }
 

@@ -6,11 +6,5 @@ use Rattle.file_fields.proofs.layout.after_nodes.Goals as goal
 pub returns-in_err-field : goal.returns-in_err-field
 returns-in_err-field c = let s = c.args in record { answer = rw c.from_residual.ensures (ends_cut _ s.at s.nodes _ c.field_at.ensures.answer c.in_err-field.was) }
 
-pub overflow_add-field : goal.overflow_add-field
-overflow_add-field c = omega (arith, c.field_at.ensures.inside _ c.in_ok-field.was)
-
-pub after_ends-requires : goal.after_ends-requires
-after_ends-requires c = (c.field_at.ensures.inside _ c.in_ok-field.was, omega arith)
-
 pub returns : goal.returns
 returns c = let s = c.args in record { answer = ends_read _ s.at s.nodes _ c.field_at.ensures.answer _ c.in_ok-field.was c.field_at.ensures.inside (omega arith) (omega arith) (omega arith) c.after_ends.result c.after_ends.ensures.answer }

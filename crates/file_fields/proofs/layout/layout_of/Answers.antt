@@ -6,14 +6,5 @@ use Rattle.file_fields.proofs.layout.layout_of.Goals as goal
 pub returns-in_err-field : goal.returns-in_err-field
 returns-in_err-field c = record { answer = rw c.from_residual.ensures (file_cut _ _ c.field_at.ensures.answer c.in_err-field.was) }
 
-pub number_at-nodes-requires : goal.number_at-nodes-requires
-number_at-nodes-requires c = omega (arith, c.field_at.ensures.inside _ c.in_ok-field.was)
-
-pub overflow_add-field : goal.overflow_add-field
-overflow_add-field c = omega (arith, c.field_at.ensures.inside _ c.in_ok-field.was)
-
-pub after_nodes-requires : goal.after_nodes-requires
-after_nodes-requires c = c.field_at.ensures.inside _ c.in_ok-field.was
-
 pub returns : goal.returns
 returns c = record { answer = nodes_read _ _ c.field_at.ensures.answer _ c.in_ok-field.was c.field_at.ensures.inside (omega arith) (omega arith) _ c.number_at-nodes.ensures.answer c.after_nodes.result c.after_nodes.ensures.answer }
