@@ -5,10 +5,13 @@ use mathlib.Core.Bool.{true}
 use mathlib.Core.List.{List}
 use mathlib.Core.Option.{Option, none, some, bind, none-ne-some}
 use native.Mathlib.Omega.{arith}
-use lib.ListN.{length, take, drop}
+use lib.ListN.{length, get_or, take, drop}
+use mir.Syntax.{w8}
+use mir.Val.{Fits}
 use Rattle.lists.specs.Search.{all_below}
 use Rattle.lists.specs.Parts.{copied_over}
 use Rattle.lists.proofs.PartsLaws.{copied_room}
+use Rattle.lists.proofs.SearchLaws.{below_all}
 use Rattle.graph.specs.Report.{Report, accepted, refused, number}
 use Rattle.graph.specs.Edges.{edge_count}
 use Rattle.graph.specs.Table.{over}
@@ -20,6 +23,7 @@ use Rattle.file_fields.specs.Layout.{summary_of, shown_layout}
 use Rattle.file_layout.proofs.FileLaws.{laid_out, ends_there, colors_start, colors_count, ColorsThere, colors_there}
 use Rattle.file_layout.proofs.OutcomeLaws.{read_bad, short_ends, short_colors, file_read, file_reader}
 use Rattle.file_fields.specs.declared.FileSummary.{FileSummary}
+use Rattle.file_fields.specs.Method.{method_byte}
 use Rattle.std.specs.Prelude.{Some, None, Result, Ok, Err, ok_or}
 use Rattle.std.specs.Prelude.{Option as Answer}
 use Rattle.graph.specs.declared.Refusal.{Refusal}
@@ -53,7 +57,10 @@ colors_placed : (bytes : List ℕ) (file : File) → LaidOut bytes file → (tag
     → ColorsThere bytes file.colors start count
 colors_placed bytes file l tags m start count t e p q = rw (p, q, sym t, sym e) (colors_there bytes file l)
 
-module _ (bytes ends₀ colors₀ : List ℕ) (b : all_below 256 bytes ≡ true) where
+module _ (bytes ends₀ colors₀ : List ℕ) (fits : (i : ℕ) → Fits w8 (get_or bytes i 0)) where
+  bytes_below : all_below 256 bytes ≡ true
+  bytes_below = below_all 256 bytes (λ i h. omega (arith, fits i))
+
   -- The four promises of the call.
   abbrev Promised : Report Summary → List ℕ → List ℕ → Type 0
   Promised report ends colors =
@@ -65,7 +72,7 @@ module _ (bytes ends₀ colors₀ : List ℕ) (b : all_below 256 bytes ≡ true)
       let p = ap (λ (o : ReadOutcome). o.report) (sym e) in
       let q = ap (λ (o : ReadOutcome). o.ends) (sym e) in
       let r = ap (λ (o : ReadOutcome). o.colors) (sym e) in
-      (p, (q, (r, file_reader bytes ends₀ colors₀ b report ends colors p q r)))
+      (p, (q, (r, file_reader bytes ends₀ colors₀ bytes_below report ends colors p q r)))
 
   module _ (r : Answer FileSummary) (e : shown_layout r ≡ summary_of (file_of bytes)) (x : Result FileSummary Refusal) (v : x ≡ ok_or r BadFile) where
     pub answer_bad : (k : Refusal) → x ≡ Err k → Promised (refused (number k)) ends₀ colors₀
@@ -74,11 +81,11 @@ module _ (bytes ends₀ colors₀ : List ℕ) (b : all_below 256 bytes ≡ true)
         rw p.1 (promised _ _ _ (read_bad bytes ends₀ colors₀ (no_file (file_of bytes) (ap shown_layout (sym p.0) ∙ e))))
 
     module _ (s : FileSummary) (q : x ≡ Ok s) where
-      abbrev found : (file : File) × (file_of bytes ≡ some file) × (summary file ≡ (s.nodes, s.edges, s.tags, s.method))
-      found = some_file (file_of bytes) (s.nodes, s.edges, s.tags, s.method) (ap shown_layout (sym (accepted_some r s (sym v ∙ q))) ∙ e)
+      abbrev found : (file : File) × (file_of bytes ≡ some file) × (summary file ≡ (s.nodes, s.edges, s.tags, method_byte s.method))
+      found = some_file (file_of bytes) (s.nodes, s.edges, s.tags, method_byte s.method) (ap shown_layout (sym (accepted_some r s (sym v ∙ q))) ∙ e)
 
       laid : LaidOut bytes found.0
-      laid = laid_out bytes found.0 b found.1
+      laid = laid_out bytes found.0 bytes_below found.1
 
       edges_are : edge_count found.0.ends ≡ s.edges
       unfolding summary
@@ -110,7 +117,7 @@ module _ (bytes ends₀ colors₀ : List ℕ) (b : all_below 256 bytes ≡ true)
         pub answer_read : 2 * s.edges ≤ length ends₀ → count ≤ length colors₀ → (ends colors : List ℕ)
             → ends ≡ copied_over (numbers (take (8 + 4 * s.edges - 8) (drop 8 bytes))) ends₀
             → colors ≡ copied_over (numbers (take (start + 2 * count - start) (drop start bytes))) colors₀
-            → Promised (accepted (s.nodes, s.edges, s.tags, s.method)) ends colors
+            → Promised (accepted (s.nodes, s.edges, s.tags, method_byte s.method)) ends colors
         answer_read h k ends colors p q =
             let m₁ : 8 + 4 * s.edges - 8 ≡ 4 * edge_count found.0.ends = omega (arith, edges_are) in
             let m₂ : start + 2 * count - start ≡ 2 * count = omega arith in
@@ -121,4 +128,4 @@ module _ (bytes ends₀ colors₀ : List ℕ) (b : all_below 256 bytes ≡ true)
             let done = file_read bytes ends₀ colors₀ found.0 found.1 (omega (arith, edges_are)) (omega (arith, colors_are.number)) in
             promised _ _ _ (done
             ∙ ap (λ (u : Summary). left (accepted u) (over found.0.ends ends₀) (over found.0.colors colors₀)) found.2
-            ∙ ap₂ (left (accepted (s.nodes, s.edges, s.tags, s.method))) (sym (p ∙ ap (λ (l : List ℕ). copied_over l ends₀) x ∙ i)) (sym (q ∙ ap (λ (l : List ℕ). copied_over l colors₀) y ∙ j)))
+            ∙ ap₂ (left (accepted (s.nodes, s.edges, s.tags, method_byte s.method))) (sym (p ∙ ap (λ (l : List ℕ). copied_over l ends₀) x ∙ i)) (sym (q ∙ ap (λ (l : List ℕ). copied_over l colors₀) y ∙ j)))
