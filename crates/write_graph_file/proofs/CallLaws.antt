@@ -5,12 +5,15 @@ use mathlib.Core.Bool.{Bool, true, false, not, ◌&&◌, ◌||◌, cond}
 use mathlib.Core.List.{List, ◌++◌, append_assoc}
 use mathlib.Core.Option.{none}
 use native.Mathlib.Omega.{arith}
-use lib.ListN.{length, length-append}
+use lib.ListN.{length, get_or, length-append}
+use mir.Syntax.{w16}
+use mir.Val.{Fits}
 use lib.Dec.{ltb, eqb}
 use borrow.Author.Tests.{eqb-true, not-false}
 use Rattle.lists.specs.Search.{all_below}
 use Rattle.lists.specs.Parts.{overwrite}
 use Rattle.lists.proofs.PartsLaws.{overwrite_append, overwrite_front, copied_room}
+use Rattle.lists.proofs.SearchLaws.{below_all}
 use Rattle.lists.proofs.Tests.{or_false}
 use Rattle.graph.specs.Report.{Report, accepted, refused, number, report_of_checked}
 use Rattle.graph.specs.Check.{first_refusal, graph_checks, check_graph, Passed}
@@ -41,7 +44,10 @@ graph_bytes : (n : ℕ) (ends : List ℕ) → length (field_bytes (record { tag 
 unfolding field_bytes bytes16
 graph_bytes n ends = omega (arith, length_bytes ends)
 
-module _ (n : ℕ) (ends colors : List ℕ) (tags method : ℕ) (output₀ : List ℕ) (b : all_below 65536 colors ≡ true) where
+module _ (n : ℕ) (ends colors : List ℕ) (tags method : ℕ) (output₀ : List ℕ) (fits : (i : ℕ) → Fits w16 (get_or colors i 0)) where
+  colors_below : all_below 65536 colors ≡ true
+  colors_below = below_all 65536 colors (λ i h. omega (arith, fits i))
+
   -- The three promises of the call.
   abbrev Promised : Report ℕ → List ℕ → Type 0
   Promised report output =
@@ -52,7 +58,7 @@ module _ (n : ℕ) (ends colors : List ℕ) (tags method : ℕ) (output₀ : Lis
   promised report output e =
       let p = ap (λ (o : WriteOutcome). o.report) (sym e) in
       let q = ap (λ (o : WriteOutcome). o.output) (sym e) in
-      (p, (q, file_writer n ends colors tags method output₀ b report output p q))
+      (p, (q, file_writer n ends colors tags method output₀ colors_below report output p q))
 
   module _ (c : Result Graph Refusal) (e : report_of_checked c ≡ check_graph n ends) where
     pub answer_graph : (r : Refusal) → c ≡ Err r → Promised (refused (number r)) output₀

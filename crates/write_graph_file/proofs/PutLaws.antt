@@ -1,23 +1,39 @@
 -- Laws of what is put: one for each answer, stated as the code tests.
-use Prim.Native.Nat.{ℕ, zero, suc, ◌+◌, ◌*◌, ◌≤◌, ◌<◌, ◌%◌, ◌/◌}
+use Prim.Native.Nat.{ℕ, zero, suc, ◌+◌, ◌-◌, ◌*◌, ◌≤◌, ◌<◌, ◌%◌, ◌/◌}
 use mathlib.Core.Path.{◌≡◌, refl, sym, ap, ◌∙◌}
-use mathlib.Core.Bool.{Bool, true, false, not, true≢false}
+use mathlib.Core.Bool.{Bool, true, false, true≢false}
 use mathlib.Core.List.{List, [], ◌∷◌, ◌++◌, append-nil}
 use native.Mathlib.Numerals.{add-one}
 use native.Mathlib.Omega.{arith}
-use lib.ListN.{length, get_or, take, set, length-append}
-use lib.Seq.{take-length}
+use lib.ListN.{length, get_or, take, drop, set, length-append}
+use borrow.Rule.Slice.PartMut.{put_mid}
+use Rattle.std.specs.Int.{w16, to_le_bytes}
 use Rattle.lists.proofs.Tests.{by-test}
 use Rattle.lists.specs.Parts.{overwrite}
-use Rattle.lists.proofs.PartsLaws.{overwrite_append}
+use Rattle.lists.proofs.PartsLaws.{overwrite_append, overwrite_front, copied_room}
 use Rattle.file_layout.specs.Fields.{bytes16, bytes_of, field_bytes, fields_bytes}
 use Rattle.file_layout.specs.File.{has_tag, field_if, other_fields}
 use Rattle.file_layout.proofs.FieldLaws.{length_bytes}
-use Rattle.write_graph_file.proofs.ToldLaws.{untold, is_told}
 
-pub number_put : (output : List ℕ) (at number : ℕ) → set (set output at (number % 256)) (at + 1) (number / 256) ≡ overwrite output at (bytes16 number)
-unfolding overwrite bytes16
-number_put output at number = rw (add-one at)
+-- ---- bytes in place of a part
+
+overwrite_behind : (l : List ℕ) (at y : ℕ) (s : List ℕ) → overwrite (y ∷ l) (suc at) s ≡ y ∷ overwrite l at s
+unfolding overwrite
+overwrite_behind l at y [] = refl
+overwrite_behind l at y (x ∷ s) = overwrite_behind (set l at x) (suc at) y s
+
+part_put : (l : List ℕ) (at : ℕ) (s : List ℕ) → at + length s ≤ length l → take at l ++ (s ++ drop (length s) (drop at l)) ≡ overwrite l at s
+part_put l zero s h = sym (overwrite_front l s ∙ copied_room s l (omega arith))
+part_put [] (suc at) s h = let z : ⊥ = omega arith in absurd z
+part_put (y ∷ l) (suc at) s h = ap (λ (m : List ℕ). y ∷ m) (part_put l at s (omega arith)) ∙ sym (overwrite_behind l at y s)
+
+pub number_put : (output : List ℕ) (at number : ℕ) (bytes : List ℕ) → at + 2 ≤ length output → number < 65536 → bytes ≡ to_le_bytes w16 number
+    → put_mid at (at + 2 - at) output bytes ≡ overwrite output at (bytes16 number)
+unfolding bytes16
+number_put output at number bytes h k e =
+    let n : at + 2 - at ≡ 2 = omega arith in
+    let high : number / 256 % 256 ≡ number / 256 = omega arith in
+    rw (n, e, high) (part_put output at (number % 256 ∷ number / 256 ∷ []) h)
 
 pub header_put : (output : List ℕ) (at tag size : ℕ) (put : List ℕ) → put ≡ overwrite (set output at tag) (at + 1) (bytes16 size) → put ≡ overwrite output at (tag ∷ bytes16 size)
 unfolding overwrite
@@ -52,12 +68,6 @@ numbers_more output at numbers i before after h p q =
     ∙ sym (overwrite_append output at front next)
     ∙ ap (overwrite output at) (sym (bytes_next numbers i h))
     ∙ ap (λ (k : ℕ). overwrite output at (bytes_of (take k numbers))) (sym (add-one i))
-
-pub numbers_all : (output : List ℕ) (at : ℕ) (numbers : List ℕ) (i : ℕ) (put : List ℕ) → i ≤ length numbers → length numbers ≤ i
-    → put ≡ overwrite output at (bytes_of (take i numbers)) → put ≡ overwrite output at (bytes_of numbers)
-numbers_all output at numbers i put h k e =
-    let p : i ≡ length numbers = omega arith in
-    e ∙ ap (λ (l : List ℕ). overwrite output at (bytes_of l)) (ap (λ (j : ℕ). take j numbers) p ∙ take-length numbers)
 
 -- ---- fields
 
@@ -125,40 +135,40 @@ unfolding field_bytes bytes16
 method_bytes method = refl
 
 module _ (output : List ℕ) (at : ℕ) (colors : List ℕ) (tags method : ℕ) (colored : Bool) (t : colored ≡ has_tag 3 tags) where
-  pub told_none : not colored ≡ true → (has_tag 4 tags ≡ true → has_tag 3 tags ≡ true) → output ≡ overwrite output at (told_bytes colors tags method)
+  pub told_none : colored ≡ false → (has_tag 4 tags ≡ true → has_tag 3 tags ≡ true) → output ≡ overwrite output at (told_bytes colors tags method)
   unfolding overwrite
   told_none e h =
-      let p = sym t ∙ untold colored e in
+      let p = sym t ∙ e in
       rw (told_neither colors tags method p (not_named tags p h))
 
-  module _ (e : not colored ≡ false) where
+  module _ (e : colored ≡ true) where
     pub colors_room : at + length (told_bytes colors tags method) ≤ length output → at + (3 + 2 * length colors) ≤ length output
     colors_room room = omega (arith, told_most, room, colors_bytes colors)
       where
         told_most : length (colors_field colors) ≤ length (told_bytes colors tags method)
         told_most =
-            let p = sym t ∙ is_told colored e in
+            let p = sym t ∙ e in
             by-test (has_tag 4 tags)
             (λ q. rw (told_both colors tags method p q, length-append (colors_field colors) (method_field method)) (omega arith))
             (λ q. rw (told_first colors tags method p q) (omega arith))
 
     pub colors_most : (has_tag 3 tags ≡ true → length colors ≤ 8192) → length colors ≤ 8192
-    colors_most h = h (sym t ∙ is_told colored e)
+    colors_most h = h (sym t ∙ e)
 
     module _ (named : Bool) (u : named ≡ has_tag 4 tags) where
-      pub told_colors : not named ≡ true → (put : List ℕ) → put ≡ overwrite output at (colors_field colors) → put ≡ overwrite output at (told_bytes colors tags method)
-      told_colors f put p = p ∙ ap (overwrite output at) (sym (told_first colors tags method (sym t ∙ is_told colored e) (sym u ∙ untold named f)))
+      pub told_colors : named ≡ false → (put : List ℕ) → put ≡ overwrite output at (colors_field colors) → put ≡ overwrite output at (told_bytes colors tags method)
+      told_colors f put p = p ∙ ap (overwrite output at) (sym (told_first colors tags method (sym t ∙ e) (sym u ∙ f)))
 
-      pub method_room : not named ≡ false → at + length (told_bytes colors tags method) ≤ length output → at + (3 + 2 * length colors) + 4 ≤ length output
+      pub method_room : named ≡ true → at + length (told_bytes colors tags method) ≤ length output → at + (3 + 2 * length colors) + 4 ≤ length output
       method_room f room =
-          let both = ap length (told_both colors tags method (sym t ∙ is_told colored e) (sym u ∙ is_told named f)) in
+          let both = ap length (told_both colors tags method (sym t ∙ e) (sym u ∙ f)) in
           omega (arith, room, both, length-append (colors_field colors) (method_field method), colors_bytes colors, method_bytes method)
 
-      pub told_all : not named ≡ false → (first put : List ℕ) → first ≡ overwrite output at (colors_field colors)
+      pub told_all : named ≡ true → (first put : List ℕ) → first ≡ overwrite output at (colors_field colors)
           → put ≡ overwrite first (at + (3 + 2 * length colors)) (method_field method) → put ≡ overwrite output at (told_bytes colors tags method)
       told_all f first put p q =
           q
           ∙ ap (λ (l : List ℕ). overwrite l (at + (3 + 2 * length colors)) (method_field method)) p
           ∙ ap (λ (k : ℕ). overwrite (overwrite output at (colors_field colors)) (at + k) (method_field method)) (sym (colors_bytes colors))
           ∙ sym (overwrite_append output at (colors_field colors) (method_field method))
-          ∙ ap (overwrite output at) (sym (told_both colors tags method (sym t ∙ is_told colored e) (sym u ∙ is_told named f)))
+          ∙ ap (overwrite output at) (sym (told_both colors tags method (sym t ∙ e) (sym u ∙ f)))

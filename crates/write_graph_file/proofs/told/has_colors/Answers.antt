@@ -1,8 +1,8 @@
 -- `has_colors` meets its contract: bit 2 is the one of tag 3.
-use borrow.Author.Rules.{rules}
 use Rattle.file_layout.specs.File.{has_tag, tag_bit}
+use Rattle.write_graph_file.proofs.ToldLaws.{bit_told}
 use Rattle.write_graph_file.proofs.told.has_colors.Goals as goal
 
 pub returns : goal.returns
 unfolding has_tag tag_bit
-returns c = search rules
+returns c = record { answer = bit_told c.args.tags 2 }
