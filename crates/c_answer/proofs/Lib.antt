@@ -1,3 +1,2 @@
 -- Laws of what specs/ defines.
 pub mod AnswerLaws
-pub mod StrategyLaws

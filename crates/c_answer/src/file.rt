@@ -20,7 +20,7 @@ pub fn answer_file(
             *nodes = file.nodes;
             *edges = file.edges;
             *tags = file.tags as usize;
-            *method = file.method as usize;
+            *method = file.method_byte() as usize;
             0
         }
         Err(refusal) => refusal.number(),

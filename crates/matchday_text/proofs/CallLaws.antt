@@ -36,6 +36,7 @@ use Rattle.file_layout.specs.Reliance.{FileReader}
 use Rattle.file_layout.proofs.FileLaws.{read_laid, laid_out, read_bytes}
 use Rattle.file_layout.proofs.OutcomeLaws.{over_front}
 use Rattle.graph_file.specs.Report.{report_of_file}
+use Rattle.file_fields.specs.Method.{method_byte}
 use Rattle.file_fields.specs.declared.FileSummary.{FileSummary}
 use Rattle.matchday_text.specs.Put.{Put, Room}
 use Rattle.lists.proofs.PartsLaws.{take_replicate}
@@ -232,8 +233,8 @@ module _ (bytes ends₀ colors₀ : List ℕ) (c : Result FileSummary Refusal) (
   -- ---- a file that was read
 
   module _ (s : FileSummary) (p : c ≡ Ok s) where
-    abbrev found : (file : File) × LaidOut bytes file × (summary file ≡ (s.nodes, s.edges, s.tags, s.method)) × (ends ≡ over file.ends ends₀) × (colors ≡ over file.colors colors₀)
-    found = reader.laid (s.nodes, s.edges, s.tags, s.method) (ap report_of_file p)
+    abbrev found : (file : File) × LaidOut bytes file × (summary file ≡ (s.nodes, s.edges, s.tags, method_byte s.method)) × (ends ≡ over file.ends ends₀) × (colors ≡ over file.colors colors₀)
+    found = reader.laid (s.nodes, s.edges, s.tags, method_byte s.method) (ap report_of_file p)
 
     edges_are : edge_count found.0.ends ≡ s.edges
     unfolding summary

@@ -139,7 +139,7 @@ pub(crate) fn put_file(
             file.nodes as u64,
             file.edges as u64,
             file.tags as u64,
-            file.method as u64,
+            file.method_byte() as u64,
         ),
         Err(refusal) => put_refused(rt, text, waiting, b"read_graph_file", refusal),
     }
