@@ -1,5 +1,6 @@
 -- Laws of the marks on colours, at a node and at an edge.
 use Prim.Native.Nat.{ℕ, zero, suc, ◌+◌, ◌≤◌, ◌<◌, ◌*◌}
+use mathlib.Core.Bool.{Bool, true, false, true≢false}
 use mathlib.Core.List.{List, [], ◌∷◌, ◌++◌, map, append_assoc, append-nil}
 use mathlib.Core.Logic.{inl, inr, ◌≢◌}
 use mathlib.Core.Path.{◌≡◌, refl, sym, ap, subst, ◌∙◌, ap₂}
@@ -26,36 +27,36 @@ use Rattle.greedy.specs.Call.{edge_neighbors}
 use Rattle.greedy.proofs.TurnLaws.{edge_neighborhood, edge_neighbors_lem, sharing_neighbor}
 use Rattle.smallest_color.specs.EdgeMarks.{colors_of}
 
-pub marked_none : (n : ℕ) → Marked (replicate n 0) []
+pub marked_none : (n : ℕ) → Marked (replicate n false) []
 marked_none n = record {
   marked = λ c h p. absurd p;
-  unmarked = λ c h q. absurd (q (get_or-replicate n c 0 0 (rw (length-replicate {A = ℕ} n 0) at h)));
+  unmarked = λ c h q. absurd (true≢false (sym q ∙ get_or-replicate n c false false (rw (length-replicate {A = Bool} n false) at h)));
 }
 
-marked_more : (marks cs : List ℕ) (c : ℕ) → Marked marks cs → Marked (set marks c 1) (cs ++ c ∷ [])
+marked_more : (marks : List Bool) (cs : List ℕ) (c : ℕ) → Marked marks cs → Marked (set marks c true) (cs ++ c ∷ [])
 marked_more marks cs c m = record {
   marked = λ b h p.
-      let h' : b < length marks = rw (length-set marks c 1) at h in
+      let h' : b < length marks = rw (length-set marks c true) at h in
       elim (dec_eq b c) [
-        | inl e ↦ λ z. let x = get_or-set_same marks c 1 0 (omega arith) in omega (arith, x, ap (λ (i : ℕ). get_or (set marks c 1) i 0) e)
-        | inr e ↦ rw (get_or-set_other marks c b 1 0 e) (elim (mem_append b cs (c ∷ []) p) [ inl q ↦ m.marked b h' q | inr q ↦ elim q [ inl r ↦ absurd (e r) | inr r ↦ absurd r ] ])
+        | inl e ↦ rw e (get_or-set_same marks c true false (omega arith))
+        | inr e ↦ rw (get_or-set_other marks c b true false e) (elim (mem_append b cs (c ∷ []) p) [ inl q ↦ m.marked b h' q | inr q ↦ elim q [ inl r ↦ absurd (e r) | inr r ↦ absurd r ] ])
       ];
   unmarked = λ b h q.
-      let h' : b < length marks = rw (length-set marks c 1) at h in
+      let h' : b < length marks = rw (length-set marks c true) at h in
       elim (dec_eq b c) [
         | inl e ↦ mem_append_right b cs (c ∷ []) (inl e)
-        | inr e ↦ mem_append_left b cs (c ∷ []) (m.unmarked b h' (rw (get_or-set_other marks c b 1 0 e) at q))
+        | inr e ↦ mem_append_left b cs (c ∷ []) (m.unmarked b h' (rw (get_or-set_other marks c b true false e) at q))
       ];
 }
 
 -- Marking the colours at the far ends of a node's edges, one edge after the other.
-module _ (ends colors : List ℕ) (v : ℕ) (ks marks : List ℕ) where
+module _ (ends colors : List ℕ) (v : ℕ) (ks : List ℕ) (marks : List Bool) where
   pub far_marked_begin : Marked marks [] → Marked marks (far_colors ends colors v (take 0 ks))
   unfolding far_colors
   far_marked_begin m = m
 
   module _ (i : ℕ) (m : Marked marks (far_colors ends colors v (take i ks))) where
-    pub far_marked_next : (w c : ℕ) (marks' : List ℕ) → i < length ks → w ≡ far_end ends (get_or ks i 0) v → c ≡ color_of colors w → marks' ≡ set marks c 1 → Marked marks' (far_colors ends colors v (take (i + 1) ks))
+    pub far_marked_next : (w c : ℕ) (marks' : List Bool) → i < length ks → w ≡ far_end ends (get_or ks i 0) v → c ≡ color_of colors w → marks' ≡ set marks c true → Marked marks' (far_colors ends colors v (take (i + 1) ks))
     unfolding far_colors
     far_marked_next w c marks' h p q m' =
         let e : c ≡ color_of colors (far_end ends (get_or ks i 0) v) = q ∙ ap (color_of colors) p in
@@ -64,14 +65,6 @@ module _ (ends colors : List ℕ) (v : ℕ) (ks marks : List ℕ) where
 
     pub far_marked_end : {stretch : List ℕ} → ks ≡ stretch → length ks ≤ i → Marked marks (far_colors ends colors v stretch)
     far_marked_end e h = subst (λ (l : List ℕ). Marked marks (far_colors ends colors v l)) (take_all i ks h ∙ e) m
-
--- ---- the first place without a mark
-
-pub first_unmarked_begin : (marks : List ℕ) (b : ℕ) → b < 0 → get_or marks b 0 ≢ 0
-first_unmarked_begin marks b h = absurd (not-suc-le-zero h)
-
-pub first_unmarked_next : (marks : List ℕ) (c : ℕ) → ((b : ℕ) → b < c → get_or marks b 0 ≢ 0) → get_or marks c 0 ≢ 0 → (b : ℕ) → b < c + 1 → get_or marks b 0 ≢ 0
-first_unmarked_next marks c before here b h = elim (dec_eq b c) [ inl e ↦ rw e here | inr e ↦ before b (omega arith) ]
 
 -- ---- what the first place without a mark is
 
@@ -102,16 +95,10 @@ smallest_enough : (few size : ℕ) (cs : List ℕ) (c : ℕ) → length cs < few
 smallest_enough few size cs c l h e = e ∙ smallest_more few size cs 0 (omega arith) h (λ b k. absurd (not-suc-le-zero k))
 
 -- As the code finds it: the first place without a mark is the smallest colour that is not used, of as many as there are marks.
-pub smallest_of_marks : (marks cs : List ℕ) (size c : ℕ) → Marked marks cs → length marks ≡ size → FirstUnmarked marks c → c ≡ smallest_from size cs 0
+pub smallest_of_marks : (marks : List Bool) (cs : List ℕ) (size c : ℕ) → Marked marks cs → length marks ≡ length (replicate size false) → FirstUnmarked marks c → c ≡ smallest_from size cs 0
 smallest_of_marks marks cs size c m l f =
-    smallest_from_lem size cs 0 c (omega arith) (omega (arith, f.inside)) (λ b h k. m.unmarked b (omega (arith, f.inside)) (f.before b k)) (λ h p. m.marked c (omega arith) p (f.here (omega arith)))
-
-first_unmarked_smallest : (marks cs : List ℕ) (c : ℕ) → Marked marks cs → FirstUnmarked marks c → c ≡ smallest_from (length marks) cs 0
-first_unmarked_smallest marks cs c m f = smallest_of_marks marks cs (length marks) c m refl f
-
--- At a node: as many places are marked as there are marks.
-pub smallest_found : (ends colors : List ℕ) (v : ℕ) (ks marks : List ℕ) (size c : ℕ) → Marked marks (far_colors ends colors v ks) → length marks ≡ size → FirstUnmarked marks c → c ≡ smallest_from size (far_colors ends colors v ks) 0
-smallest_found ends colors v ks marks size c m l f = rw (← l) (first_unmarked_smallest marks (far_colors ends colors v ks) c m f)
+    let count : length marks ≡ size = l ∙ length-replicate size false in
+    smallest_from_lem size cs 0 c (omega arith) (omega (arith, f.inside)) (λ b h k. m.unmarked b (omega (arith, f.inside)) (f.before b k)) (λ h p. true≢false (sym (m.marked c (omega arith) p) ∙ f.here (omega arith)))
 
 -- At a node with few edges few marks find the same.
 pub node_few : (ends colors : List ℕ) (v : ℕ) (ks es : List ℕ) (c : ℕ) → es ≡ ks → length es < 64 → c ≡ smallest_from 64 (far_colors ends colors v ks) 0 → c ≡ smallest_from 512 (far_colors ends colors v ks) 0
@@ -155,13 +142,13 @@ smallest_color_node n ends starts entries colors v r p table h e =
 
 -- ---- marking the colours of edges, one after the other
 
-module _ (colors ks marks cs : List ℕ) where
+module _ (colors ks : List ℕ) (marks : List Bool) (cs : List ℕ) where
   pub edges_marked_begin : Marked marks cs → Marked marks (cs ++ colors_of colors (take 0 ks))
   unfolding colors_of
   edges_marked_begin m = rw (append-nil cs) m
 
   module _ (i : ℕ) (m : Marked marks (cs ++ colors_of colors (take i ks))) where
-    pub edges_marked_next : (c : ℕ) (marks' : List ℕ) → i < length ks → c ≡ color_of colors (get_or ks i 0) → marks' ≡ set marks c 1 → Marked marks' (cs ++ colors_of colors (take (i + 1) ks))
+    pub edges_marked_next : (c : ℕ) (marks' : List Bool) → i < length ks → c ≡ color_of colors (get_or ks i 0) → marks' ≡ set marks c true → Marked marks' (cs ++ colors_of colors (take (i + 1) ks))
     unfolding colors_of
     edges_marked_next c marks' h q r =
         let t = ap (map (color_of colors)) (ap (λ (j : ℕ). take j ks) (add-one i) ∙ take-suc ks i 0 h) ∙ map_append (color_of colors) (take i ks) (get_or ks i 0 ∷ []) in
@@ -184,13 +171,6 @@ pub smallest_at_ends : (ends starts entries colors : List ℕ) (k a b : ℕ) (es
     → c ≡ smallest_from 4096 (colors_of colors (stretch starts entries (first_end ends k)) ++ colors_of colors (stretch starts entries (second_end ends k))) 0
 unfolding first_end second_end
 smallest_at_ends ends starts entries colors k a b es fs c u v p q e = rw (← u, ← v, ← p, ← q) e
-
--- The same of marks.
-pub smallest_edge_found : (ends starts entries colors : List ℕ) (k a b : ℕ) (es fs marks : List ℕ) (size c : ℕ) → a ≡ get_or ends (2 * k) 0 → b ≡ get_or ends (2 * k + 1) 0 → es ≡ stretch starts entries a → fs ≡ stretch starts entries b
-    → Marked marks (colors_of colors es ++ colors_of colors fs) → length marks ≡ size → FirstUnmarked marks c
-    → c ≡ smallest_from size (colors_of colors (stretch starts entries (first_end ends k)) ++ colors_of colors (stretch starts entries (second_end ends k))) 0
-unfolding first_end second_end
-smallest_edge_found ends starts entries colors k a b es fs marks size c u v p q m l f = rw (← u, ← v, ← p, ← q, ← l) (first_unmarked_smallest marks (colors_of colors es ++ colors_of colors fs) c m f)
 
 -- ---- at an edge of a graph that passed
 

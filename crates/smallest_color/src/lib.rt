@@ -1,7 +1,7 @@
 // The smallest free colour of a node and of an edge, by marks: one pass over the neighbours' colours, one over the marks.
 #![tactic(auto)]
 
-ghost use Rattle.std.specs.Prelude.{◌≡◌, List, [], ◌++◌, ℕ, ◌≤◌, length, set};
+ghost use Rattle.std.specs.Prelude.{◌≡◌, List, [], ◌++◌, ℕ, ◌≤◌, true, length, set};
 ghost use Rattle.graph.specs.Color.{smallest_from};
 ghost use Rattle.graph.specs.Colored.{color_of};
 ghost use Rattle.graph.specs.Edges.{first_end, second_end};
@@ -19,24 +19,21 @@ const FEW: usize = 64;
 const MORE: usize = 512;
 
 // Marks a colour, if there is a place for it.
-fn mark(marks: &mut [u8], color: Color)
-    ensures marks { marks.new ≡ set marks.old color.0 1 }
+fn mark(marks: &mut [bool], color: Color)
+    ensures marks { marks.new ≡ set marks.old color.0 true }
 {
     let c = color.0 as usize;
     if c < marks.len() {
-        marks[c] = 1;
+        marks[c] = true;
     }
 }
 
 // The colour at a place, none beyond the list.
+#[tactic(auto, unfolding(graph::specs::Colored::color_of))]
 fn color_of(colors: &[u16], place: usize) -> Color
     ensures answer { result.0 ≡ color_of colors.now place }
 {
-    if place < colors.len() {
-        Color(colors[place])
-    } else {
-        Color(Color::NONE)
-    }
+    Color(colors.get(place).copied().unwrap_or(Color::NONE))
 }
 
 // Marks the colours at the far ends of the node's edges.
@@ -46,7 +43,7 @@ fn mark_far_colors(
     entries: &[u16],
     colors: &[u16],
     node: NodeIndex,
-    marks: &mut [u8],
+    marks: &mut [bool],
 )
     requires { Marked marks.old [] }
     ensures marked { let ends = ends.entry.now in let colors = colors.entry.now in let starts = starts.entry.now in
@@ -55,78 +52,39 @@ fn mark_far_colors(
     ensures marks_length { length marks.new ≡ length marks.old }
 {
     let edges = edges_at(starts, entries, node);
-    for edge in edges {
-        let far = far_end(ends, EdgeIndex(*edge), node);
+    for &edge in edges {
+        let far = far_end(ends, EdgeIndex(edge), node);
         mark(marks, color_of(colors, far.0 as usize));
     }
 }
 
 // The first place without a mark, or the end.
-fn first_unmarked(marks: &[u8]) -> usize
+fn first_unmarked(marks: &[bool]) -> usize
     ensures first_unmarked { FirstUnmarked marks.now result }
 {
-    let mut c = 0;
-    while c < marks.len() {
-        if marks[c] == 0 {
-            return c;
-        }
-        c += 1;
-    }
-    c
+    marks.iter().position(|mark| !*mark).unwrap_or(marks.len())
 }
 
-// The smallest colour that no neighbour has, of as many as there are marks, which are 0 at first.
-fn first_free(
-    ends: &[u16],
-    starts: &[u16],
-    entries: &[u16],
-    colors: &[u16],
-    node: NodeIndex,
-    marks: &mut [u8],
-) -> Color
-    requires { Marked marks.old [] × (length marks.old ≤ 4096) }
-    ensures answer { let ends = ends.entry.now in let colors = colors.entry.now in let starts = starts.entry.now in
-        let entries = entries.entry.now in
-        result.0 ≡ smallest_from (length marks.old) (far_colors ends colors node.0 (stretch starts entries node.0)) 0 }
-{
-    mark_far_colors(ends, starts, entries, colors, node, marks);
-    Color(first_unmarked(marks) as u16)
-}
-
-// Of the first 64, enough where fewer edges stand at the node.
-fn first_free_of_few(
+// The smallest colour that no neighbour has, of as many as there are marks.
+fn first_free_of<const MARKS: usize>(
     ends: &[u16],
     starts: &[u16],
     entries: &[u16],
     colors: &[u16],
     node: NodeIndex,
 ) -> Color
+    requires { MARKS ≤ 4096 }
     ensures answer { let ends = ends.entry.now in let colors = colors.entry.now in let starts = starts.entry.now in
         let entries = entries.entry.now in
-        result.0 ≡ smallest_from 64 (far_colors ends colors node.0 (stretch starts entries node.0)) 0 }
+        result.0 ≡ smallest_from MARKS (far_colors ends colors node.0 (stretch starts entries node.0)) 0 }
 {
-    let mut marks = [0u8; FEW];
-    first_free(ends, starts, entries, colors, node, &mut marks)
+    let mut marks = [false; MARKS];
+    mark_far_colors(ends, starts, entries, colors, node, &mut marks);
+    Color(first_unmarked(&marks) as u16)
 }
 
-// Of the first 512: a node has fewer different other neighbours.
-fn first_free_of_all(
-    ends: &[u16],
-    starts: &[u16],
-    entries: &[u16],
-    colors: &[u16],
-    node: NodeIndex,
-) -> Color
-    ensures answer { let ends = ends.entry.now in let colors = colors.entry.now in let starts = starts.entry.now in
-        let entries = entries.entry.now in
-        result.0 ≡ smallest_from 512 (far_colors ends colors node.0 (stretch starts entries node.0)) 0 }
-{
-    let mut marks = [0u8; Graph::MAX_NODES];
-    first_free(ends, starts, entries, colors, node, &mut marks)
-}
-
-// The smallest colour that no neighbour has, of the first 512. Clearing the marks is most of the work where few edges stand at the node, so
-// there are fewer then.
+// The smallest colour that no neighbour has, of the first 512: a node has fewer different other neighbours. Clearing the marks is most of the
+// work where few edges stand at the node, so there are fewer then.
 pub fn smallest_color(
     ends: &[u16],
     starts: &[u16],
@@ -139,75 +97,48 @@ pub fn smallest_color(
         result.0 ≡ smallest_from 512 (far_colors ends colors node.0 (stretch starts entries node.0)) 0 }
 {
     if edges_at(starts, entries, node).len() < FEW {
-        return first_free_of_few(ends, starts, entries, colors, node);
+        first_free_of::<FEW>(ends, starts, entries, colors, node)
+    } else {
+        first_free_of::<{ Graph::MAX_NODES }>(ends, starts, entries, colors, node)
     }
-    first_free_of_all(ends, starts, entries, colors, node)
 }
 
 // Marks the colours of these edges.
-fn mark_colors(edges: &[u16], colors: &[u16], marks: &mut [u8])
+fn mark_colors(edges: &[u16], colors: &[u16], marks: &mut [bool])
     ensures marks { let marks₀ = marks.old in let colors = colors.entry.now in let edges = edges.entry.now in
         ((cs : List ℕ) → Marked marks₀ cs → Marked marks.new (cs ++ colors_of colors edges)) }
     ensures marks_length { length marks.new ≡ length marks.old }
 {
-    let mut i = 0;
-    while i < edges.len() {
-        mark(marks, color_of(colors, edges[i] as usize));
-        i += 1;
+    for &edge in edges {
+        mark(marks, color_of(colors, edge as usize));
     }
 }
 
-// The smallest colour that none of these edges has, of as many as there are marks, which are 0 at first.
-fn first_unused(first: &[u16], second: &[u16], colors: &[u16], marks: &mut [u8]) -> Color
-    requires { Marked marks.old [] × (length marks.old ≤ 4096) }
+// The smallest colour that none of these edges has, of as many as there are marks.
+fn first_unused_of<const MARKS: usize>(first: &[u16], second: &[u16], colors: &[u16]) -> Color
+    requires { MARKS ≤ 4096 }
     ensures answer { let colors = colors.entry.now in let first = first.entry.now in let second = second.entry.now in
-        result.0 ≡ smallest_from (length marks.old) (colors_of colors first ++ colors_of colors second) 0 }
+        result.0 ≡ smallest_from MARKS (colors_of colors first ++ colors_of colors second) 0 }
 {
-    mark_colors(first, colors, marks);
-    mark_colors(second, colors, marks);
-    Color(first_unmarked(marks) as u16)
+    let mut marks = [false; MARKS];
+    mark_colors(first, colors, &mut marks);
+    mark_colors(second, colors, &mut marks);
+    Color(first_unmarked(&marks) as u16)
 }
 
-// Of the first 64, enough for fewer edges.
-fn first_unused_of_few(first: &[u16], second: &[u16], colors: &[u16]) -> Color
-    ensures answer { let colors = colors.entry.now in let first = first.entry.now in let second = second.entry.now in
-        result.0 ≡ smallest_from 64 (colors_of colors first ++ colors_of colors second) 0 }
-{
-    let mut marks = [0u8; FEW];
-    first_unused(first, second, colors, &mut marks)
-}
-
-// Of the first 512, enough for fewer edges.
-fn first_unused_of_more(first: &[u16], second: &[u16], colors: &[u16]) -> Color
-    ensures answer { let colors = colors.entry.now in let first = first.entry.now in let second = second.entry.now in
-        result.0 ≡ smallest_from 512 (colors_of colors first ++ colors_of colors second) 0 }
-{
-    let mut marks = [0u8; MORE];
-    first_unused(first, second, colors, &mut marks)
-}
-
-// Of the first 4,096: there are no more edges.
-fn first_unused_of_all(first: &[u16], second: &[u16], colors: &[u16]) -> Color
-    ensures answer { let colors = colors.entry.now in let first = first.entry.now in let second = second.entry.now in
-        result.0 ≡ smallest_from 4096 (colors_of colors first ++ colors_of colors second) 0 }
-{
-    let mut marks = [0u8; Graph::MAX_EDGES];
-    first_unused(first, second, colors, &mut marks)
-}
-
-// The smallest colour that none of these edges has, of the first 4,096, with as many marks as their number asks for.
+// The smallest colour that none of these edges has, of the first 4,096, with as many marks as their number asks for: there are no more edges.
 fn smallest_unused(first: &[u16], second: &[u16], colors: &[u16]) -> Color
     ensures answer { let colors = colors.entry.now in let first = first.entry.now in let second = second.entry.now in
         result.0 ≡ smallest_from 4096 (colors_of colors first ++ colors_of colors second) 0 }
 {
     let count = first.len() + second.len();
     if count < FEW {
-        return first_unused_of_few(first, second, colors);
+        first_unused_of::<FEW>(first, second, colors)
+    } else if count < MORE {
+        first_unused_of::<MORE>(first, second, colors)
+    } else {
+        first_unused_of::<{ Graph::MAX_EDGES }>(first, second, colors)
     }
-    if count < MORE {
-        return first_unused_of_more(first, second, colors);
-    }
-    first_unused_of_all(first, second, colors)
 }
 
 // The smallest colour that no edge at either end has, of the first 4,096.
