@@ -3,30 +3,17 @@ use Prim.Native.Nat.{ℕ}
 use mathlib.Core.Path.{◌≡◌, refl}
 use mathlib.Core.List.{List}
 use lib.ListN.{length}
-use Rattle.graph.specs.Report.{Report, accepted, refused, number, report_of_checked}
+use Rattle.graph.specs.Report.{accepted, refused, number, report_of_checked}
 use Rattle.graph.specs.Check.{Passed}
 use Rattle.graph.specs.Color.{days_of}
 use Rattle.graph.specs.declared.Refusal.{Refusal}
 use Rattle.graph.specs.declared.Graph.{Graph}
 use Rattle.std.specs.Prelude.{Result, Ok, Err}
-use Rattle.greedy.specs.Call.{Rule, check_items, check_nodes, check_edges, greedy_items, greedy_nodes, greedy_edges}
+use Rattle.greedy.specs.Call.{Rule, check_items, greedy_items, greedy_nodes, greedy_edges}
 use Rattle.greedy.proofs.CallLaws.{items_no, items_passed, items_yes}
 use Rattle.items.specs.declared.Kind.{Kind}
 use Rattle.items.specs.declared.Kind.TheVariants.{Nodes, Edges}
 use Rattle.items.specs.Items.{items_of, neighbors_of, greedy_of}
-
--- ---- the checks
-
-module _ (kind : Kind) (n : ℕ) (ends : List ℕ) (presets colors : ℕ) (report : Report (ℕ × ℕ)) where
-  pub nodes_checked : kind ≡ Nodes → report ≡ check_nodes n ends presets colors → report ≡ check_items n ends (items_of kind n ends) presets colors
-  unfolding check_nodes
-  nodes_checked k e = rw k e
-
-  pub edges_checked : kind ≡ Edges → report ≡ check_edges n ends presets colors → report ≡ check_items n ends (items_of kind n ends) presets colors
-  unfolding check_edges
-  edges_checked k e = rw k e
-
--- ---- the answers
 
 -- Of either kind the outcome is the strategy's over the items and their neighbours.
 greedy_of_lem : (kind : Kind) (rule : Rule) (n : ℕ) (ends presets lent : List ℕ) → greedy_of kind rule n ends presets lent ≡ greedy_items rule (neighbors_of kind n ends) (items_of kind n ends) n ends presets lent

@@ -18,12 +18,10 @@ use Rattle.graph.specs.Stretch.{bounds, stretch, Table}
 use Rattle.graph.proofs.NeighborLaws.{neighbor_edge, edge_neighbor, passed_neighbor, length_neighbors}
 use Rattle.line_list.proofs.LineNeighborLaws.{line_neighbor_member, line_neighbor_count, line_neighbor_count_loop}
 use Rattle.greedy.specs.Greedy.{Neighborhood}
-use Rattle.graph.specs.Color.{smallest_from, no_color}
+use Rattle.graph.specs.Color.{no_color}
 use Rattle.graph.specs.Colored.{color_of, smallest_free_at}
 use Rattle.greedy.proofs.TurnLaws.{node_neighborhood, edge_neighborhood, edge_neighbors_lem, sharing_neighbor}
-use Rattle.smallest_color.specs.Marks.{far_colors}
 use Rattle.smallest_color.proofs.MarksLaws.{smallest_color_node, smallest_color_edge}
-use Rattle.smallest_color.specs.EdgeMarks.{colors_of}
 use Rattle.items.specs.declared.Kind.{Kind}
 use Rattle.items.specs.declared.Kind.TheVariants.{Nodes, Edges}
 use Rattle.items.specs.Items.{items_of, first_node, second_node, across_of, own_of, neighbors_of, count_at, neighbor_count, free_color, Sized, Tabled}
@@ -31,64 +29,6 @@ use Rattle.items.specs.Items.{items_of, first_node, second_node, across_of, own_
 -- A graph that passed, with its table, at the slice of its items.
 pub items_tabled : (kind : Kind) (n : ℕ) (ends starts entries colors : List ℕ) → Passed n ends → Table ends n starts entries → length colors ≡ items_of kind n ends → Tabled kind n ends starts entries (length colors)
 items_tabled kind n ends starts entries colors p table e = record { sized = record { passed = p; size = e }; table = table }
-
--- ---- as the code answers
-
-pub node_first : (kind : Kind) (ends : List ℕ) (v : ℕ) → kind ≡ Nodes → v ≡ first_node kind ends v
-unfolding first_node
-node_first kind ends v k = rw k
-
-pub edge_first : (kind : Kind) (ends : List ℕ) (v k a : ℕ) → kind ≡ Edges → k ≡ v → a ≡ get_or ends (2 * k) 0 → a ≡ first_node kind ends v
-unfolding first_node first_end
-edge_first kind ends v k a q p e = rw (q, ← p) e
-
-pub node_second : (kind : Kind) (ends : List ℕ) (v : ℕ) → kind ≡ Nodes → v ≡ second_node kind ends v
-unfolding second_node
-node_second kind ends v k = rw k
-
-pub edge_second : (kind : Kind) (ends : List ℕ) (v k a : ℕ) → kind ≡ Edges → k ≡ v → a ≡ get_or ends (2 * k + 1) 0 → a ≡ second_node kind ends v
-unfolding second_node second_end
-edge_second kind ends v k a q p e = rw (q, ← p) e
-
-pub node_across : (kind : Kind) (ends : List ℕ) (k w a : ℕ) → kind ≡ Nodes → a ≡ far_end ends k w → a ≡ across_of kind ends k w
-unfolding across_of
-node_across kind ends k w a q e = rw q e
-
-pub edge_across : (kind : Kind) (ends : List ℕ) (k w a : ℕ) → kind ≡ Edges → a ≡ k → a ≡ across_of kind ends k w
-unfolding across_of
-edge_across kind ends k w a q e = rw q e
-
-module _ (kind : Kind) (starts entries : List ℕ) (w : ℕ) (edges : List ℕ) (e : edges ≡ stretch starts entries w) where
-  pub count_none : length edges ≡ 0 → 0 ≡ count_at kind starts entries w
-  unfolding count_at
-  count_none z = omega (arith, ap length e)
-
-  pub node_count_at : kind ≡ Nodes → length edges ≡ count_at kind starts entries w
-  unfolding count_at own_of
-  node_count_at k = rw k (omega (arith, ap length e))
-
-  pub edge_count_at : kind ≡ Edges → length edges - 1 ≡ count_at kind starts entries w
-  unfolding count_at own_of
-  edge_count_at k = rw k (omega (arith, ap length e))
-
-module _ (kind : Kind) (ends starts entries : List ℕ) (v a b r : ℕ) (p : a ≡ first_node kind ends v) (q : b ≡ second_node kind ends v) (x : r ≡ count_at kind starts entries a) where
-  pub count_one : a ≡ b → r ≡ neighbor_count kind ends starts entries v
-  unfolding neighbor_count
-  count_one e = rw (← p, ← q, eq-eqb a b e) x
-
-  pub count_two : (a ≡ b → ⊥) → (s : ℕ) → s ≡ count_at kind starts entries b → r + s ≡ neighbor_count kind ends starts entries v
-  unfolding neighbor_count
-  count_two n s y = rw (← p, ← q, ne_eqb a b n, x, y)
-
-module _ (kind : Kind) (ends starts entries colors : List ℕ) (v r : ℕ) where
-  pub node_free : kind ≡ Nodes → r ≡ smallest_from 512 (far_colors ends colors v (stretch starts entries v)) 0 → r ≡ free_color kind ends starts entries colors v
-  unfolding free_color
-  node_free q e = rw q e
-
-  pub edge_free : kind ≡ Edges → (k : ℕ) → k ≡ v → r ≡ smallest_from 4096 (colors_of colors (stretch starts entries (first_end ends k)) ++ colors_of colors (stretch starts entries (second_end ends k))) 0
-      → r ≡ free_color kind ends starts entries colors v
-  unfolding free_color
-  edge_free q k p e = rw (q, ← p) e
 
 -- ---- a graph that passed
 
@@ -223,9 +163,10 @@ module _ (n : ℕ) (ends starts entries : List ℕ) (items : ℕ) where
 
   -- With a graph's own table the neighbours of each item are counted.
   pub neighbors_counted : (kind : Kind) → Tabled kind n ends starts entries items → (v : ℕ) → v < items → neighbor_count kind ends starts entries v ≡ length (neighbors_of kind n ends v)
+  unfolding neighbor_count
   neighbors_counted kind t v h = elim (dec_eq (first_node kind ends v) (second_node kind ends v)) [
-    | inl e ↦ sym (count_one kind ends starts entries v _ _ _ refl refl refl e) ∙ neighbors_one kind t v h e
-    | inr d ↦ sym (count_two kind ends starts entries v _ _ _ refl refl refl d _ refl) ∙ neighbors_two kind t v h d
+    | inl e ↦ rw (eq-eqb (first_node kind ends v) (second_node kind ends v) e) (neighbors_one kind t v h e)
+    | inr d ↦ rw (ne_eqb (first_node kind ends v) (second_node kind ends v) d) (neighbors_two kind t v h d)
   ]
 
 -- ---- the smallest colour that no neighbour has

@@ -17,13 +17,14 @@ use smallest_color::{smallest_color, smallest_edge_color};
 pub use table::Items;
 
 // Which items are coloured.
-#[derive(Clone, Copy)]
+#[derive(Clone, Copy, PartialEq, Eq, Debug)]
 pub enum Kind {
     Nodes,
     Edges,
 }
 
 // The checks of colouring these items, given how many presets and colours are lent.
+#[tactic(auto, unfolding(greedy::specs::Call::check_nodes, greedy::specs::Call::check_edges))]
 pub fn check_items(
     kind: Kind,
     n: usize,
@@ -40,6 +41,7 @@ pub fn check_items(
 }
 
 // The first node of an item: a node itself, or an edge's first end.
+#[tactic(auto, unfolding(crate::specs::Items::first_node, graph::specs::Edges::first_end))]
 pub fn first_node(kind: Kind, ends: &[u16], item: NodeIndex) -> NodeIndex
     ensures answer { result.0 ≡ first_node kind ends.now item.0 }
 {
@@ -50,6 +52,7 @@ pub fn first_node(kind: Kind, ends: &[u16], item: NodeIndex) -> NodeIndex
 }
 
 // The second node of an item: a node itself again, or an edge's second end.
+#[tactic(auto, unfolding(crate::specs::Items::second_node, graph::specs::Edges::second_end))]
 pub fn second_node(kind: Kind, ends: &[u16], item: NodeIndex) -> NodeIndex
     ensures answer { result.0 ≡ second_node kind ends.now item.0 }
 {
@@ -60,6 +63,7 @@ pub fn second_node(kind: Kind, ends: &[u16], item: NodeIndex) -> NodeIndex
 }
 
 // The item to which an edge leads from a node: its far end, or the edge itself.
+#[tactic(auto, unfolding(crate::specs::Items::across_of))]
 pub fn across(kind: Kind, ends: &[u16], edge: EdgeIndex, node: NodeIndex) -> NodeIndex
     ensures answer { result.0 ≡ across_of kind ends.now edge.0 node.0 }
 {
@@ -70,20 +74,19 @@ pub fn across(kind: Kind, ends: &[u16], edge: EdgeIndex, node: NodeIndex) -> Nod
 }
 
 // How many edges stand at a node of an item, an edge itself not counted.
+#[tactic(auto, unfolding(crate::specs::Items::count_at, crate::specs::Items::own_of))]
 fn count_at(kind: Kind, starts: &[u16], entries: &[u16], node: NodeIndex) -> usize
     ensures answer { let starts = starts.entry.now in let entries = entries.entry.now in result ≡ count_at kind starts entries node.0 }
 {
-    let edges = edges_at(starts, entries, node);
-    if edges.len() == 0 {
-        return 0;
-    }
+    let count = edges_at(starts, entries, node).len();
     match kind {
-        Kind::Nodes => edges.len(),
-        Kind::Edges => edges.len() - 1,
+        Kind::Nodes => count,
+        Kind::Edges => count.saturating_sub(1),
     }
 }
 
 // How many neighbours the table gives an item. Where the graph passed the checks and the table is its own, it has as many (neighbors_counted).
+#[tactic(auto, unfolding(crate::specs::Items::neighbor_count))]
 pub fn neighbor_count(
     kind: Kind,
     ends: &[u16],
@@ -97,7 +100,7 @@ pub fn neighbor_count(
     let first = first_node(kind, ends, item);
     let second = second_node(kind, ends, item);
     let count = count_at(kind, starts, entries, first);
-    if first.0 == second.0 {
+    if first == second {
         return count;
     }
     count + count_at(kind, starts, entries, second)
@@ -105,6 +108,7 @@ pub fn neighbor_count(
 
 // The smallest colour at no far end of a node's edges, or on no edge at an edge's ends. Where the graph passed the checks and the table is its
 // own, it is for an item without a colour the smallest that no neighbour has (free_smallest).
+#[tactic(auto, unfolding(crate::specs::Items::free_color))]
 pub fn free_color(
     kind: Kind,
     ends: &[u16],
