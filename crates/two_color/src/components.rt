@@ -18,10 +18,8 @@ fn start(up: &mut [u16])
     requires { length up.old ≤ 512 }
     ensures up { (v : ℕ) → v < length up.old → get_or up.new v 0 ≡ v }
 {
-    let mut v = 0;
-    while v < up.len() {
-        up[v] = v as u16;
-        v += 1;
+    for (v, above) in up.iter_mut().enumerate() {
+        *above = v as u16;
     }
 }
 
@@ -63,17 +61,13 @@ fn join(up: &mut [u16], flips: &mut [bool], first: NodeIndex, second: NodeIndex)
     let a = root_of(up, flips, first);
     let b = root_of(up, flips, second);
     let same = a.odd == b.odd;
-    let mut low = a.node.0;
-    let mut high = b.node.0;
-    if low == high {
+    if a.node == b.node {
         return !same;
     }
-    if high < low {
-        low = b.node.0;
-        high = a.node.0;
-    }
-    up[high as usize] = low;
-    flips[high as usize] = same;
+    let low = a.node.0.min(b.node.0);
+    let high = a.node.0.max(b.node.0) as usize;
+    up[high] = low;
+    flips[high] = same;
     true
 }
 
@@ -83,14 +77,12 @@ fn join_edges(ends: &[u16], up: &mut [u16], flips: &mut [bool]) -> bool
     requires joined { Joined ends.now 0 up.old flips.old }
     ensures taken { let ends = ends.entry.now in Taken ends (edge_count ends) up.new flips.new result }
 {
-    let mut k = 0;
-    while k < ends.len() / 2 {
+    for k in 0..ends.len() / 2 {
         let first = NodeIndex(ends[2 * k]);
         let second = NodeIndex(ends[2 * k + 1]);
         if !join(up, flips, first, second) {
             return false;
         }
-        k += 1;
     }
     true
 }
@@ -111,10 +103,7 @@ fn side_under(side: u16, flip: bool) -> u16
     requires { side ≤ 1 }
     ensures answer { result ≡ cond flip (1 - side) side }
 {
-    if flip {
-        return other(side);
-    }
-    side
+    if flip { other(side) } else { side }
 }
 
 // A root gets 1, each other node its side from the one that it hangs under.
@@ -124,15 +113,13 @@ fn write_sides(n: usize, up: &[u16], flips: &[bool], sides: &mut [u16])
     ensures sides { let up = up.entry.now in let flips = flips.entry.now in
         ((low : ℕ → ℕ) (odd : ℕ → Bool) → Holds low odd up flips → Sided odd n sides.new) }
 {
-    let mut v = 0;
-    while v < n {
+    for v in 0..n {
         let above = up[v] as usize;
         if above == v {
             sides[v] = 1;
         } else {
             sides[v] = side_under(sides[above], flips[v]);
         }
-        v += 1;
     }
 }
 

@@ -15,24 +15,23 @@ fn copy_out(sides: &[u16], colors: &mut [u8])
     requires { (length colors.old ≡ length sides.now) × ((i : ℕ) → i < length sides.now → get_or sides.now i 0 ≤ 1) }
     ensures colors { colors.new ≡ sides.now }
 {
-    let mut i = 0;
-    while i < sides.len() {
-        colors[i] = sides[i] as u8;
-        i += 1;
+    for (i, side) in sides.iter().enumerate() {
+        colors[i] = *side as u8;
     }
 }
 
 // The days without counting: the ends of an edge have both colours; without edges every node has 1.
+#[tactic(auto, unfolding(crate::specs::TwoColor::side_days))]
 fn days_of_sides(n: usize, m: usize) -> usize
     ensures answer { result ≡ side_days n m }
 {
     if 0 < m {
-        return 2;
+        2
+    } else if 0 < n {
+        1
+    } else {
+        0
     }
-    if 0 < n {
-        return 1;
-    }
-    0
 }
 
 // A graph that passed the checks, and a place for each node.

@@ -1,11 +1,6 @@
 -- `write_sides` meets its contract. The invariant: the nodes passed have the colours of their sides.
--- The measure: what is left to go over, n - v; each turn goes on by one.
-use Prim.Native.Nat.{◌-◌}
 use Rattle.two_color.proofs.ComponentsLaws.{Colored}
 use Rattle.two_color.proofs.components.write_sides.Given as goal
 
 abbrev pub invariant-loop-v : goal.invariant-loop-v
-invariant-loop-v l = Colored l.n l.up l.flips l.initial.sides l.sides l.v
-
-abbrev pub decreases-loop-v : goal.decreases-loop-v
-decreases-loop-v l = l.n - l.v
+invariant-loop-v l = Colored l.n l.up l.flips l.sides l.v
