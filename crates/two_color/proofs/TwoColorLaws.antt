@@ -13,14 +13,12 @@ use Rattle.lists.proofs.Tests.{by-test, dec_eq}
 use Rattle.lists.specs.Member.{Mem}
 use Rattle.lists.proofs.MemberLaws.{mem_get_or, place_of_lem}
 use Rattle.days.proofs.DaysLaws.{days_gapless, days_once, days_none}
-use Rattle.graph.specs.Report.{Report, accepted, refused, Accepted, number, report_of_checked}
+use Rattle.graph.specs.Report.{Report, accepted, refused, Accepted}
 use Rattle.graph.specs.Check.{◌gives◌, first_refusal, answered, written, graph_checks, length_check, check_graph, numbers_pass, Passed}
-use Rattle.graph.proofs.CheckLaws.{refusal_passes, passed, passed_inside, sized_passed, passed_sized, refused_first, passed_first, first_refuses, first_passes, all_passed, answered_refused, answered_accepted, written_refused, written_accepted, graph_refused, graph_accepted}
+use Rattle.graph.proofs.CheckLaws.{refusal_passes, passes, passed_inside, sized_passed, passed_sized, refused_first, passed_first, first_refuses, first_passes, all_passed, answered_refused, answered_accepted, written_refused, written_accepted}
 use Rattle.graph.specs.Edges.{edge_count, first_end, second_end}
 use Rattle.graph.specs.Color.{colored, days_of}
-use Rattle.graph.specs.declared.Refusal.{Refusal}
-use Rattle.graph.specs.declared.Graph.{Graph}
-use Rattle.std.specs.Prelude.{Result, Ok, Err}
+use Rattle.graph.proofs.CheckedLaws.{refused_by_graph}
 use Rattle.two_color.specs.Walk.{OddClosedWalk, Walk, is_odd}
 use Rattle.two_color.specs.Sides.{odd_cycle, odd_side, side_color, sides, lowest}
 use Rattle.two_color.proofs.SideLaws.{odd_cycle_walk, walk_odd_cycle, side_color_bound, color_second, length_sides, sides_at, lowest_node_one, lowest_le, lowest_same, lowest_walk, proper_walk}
@@ -124,30 +122,23 @@ module _ (n : ℕ) (ends lent : List ℕ) where
 
   -- ---- one law for each answer
 
-  pub graph_no : (c : Result Graph Refusal) (r : Refusal) → report_of_checked c ≡ check_graph n ends → c ≡ Err r → (refused (number r) ≡ (two_color n ends lent).report) × (lent ≡ (two_color n ends lent).colors)
+  pub graph_no : (k : ℕ) → refused k ≡ check_graph n ends → (refused k ≡ (two_color n ends lent).report) × (lent ≡ (two_color n ends lent).colors)
   unfolding input_checks
-  graph_no c r e p = before_eight (number r) (refused_first (graph_checks n ends) (length_check (length lent) n ∷ []) (number r) (graph_refused n ends c r e p))
+  graph_no k e = before_eight k (refused_first (graph_checks n ends) (length_check (length lent) n ∷ []) k (refused_by_graph n ends k e))
 
-  module _ (c : Result Graph Refusal) (g : Graph) (e : report_of_checked c ≡ check_graph n ends) (p : c ≡ Ok g) where
-    pub graph_yes : Passed n ends
-    graph_yes = passed n ends (graph_accepted n ends c g e p).0
-
+  module _ (p : Passed n ends) where
     after_graph_lem : first_refusal (input_checks n ends lent) ≡ first_refusal (length_check (length lent) n ∷ [])
     unfolding input_checks
-    after_graph_lem = passed_first (graph_checks n ends) (length_check (length lent) n ∷ []) (graph_accepted n ends c g e p).0
+    after_graph_lem = passed_first (graph_checks n ends) (length_check (length lent) n ∷ []) (passes n ends p)
 
-    pub length_no : (length lent ≡ g.nodes → ⊥) → (refused 5 ≡ (two_color n ends lent).report) × (lent ≡ (two_color n ends lent).colors)
+    pub length_no : (length lent ≡ n → ⊥) → (refused 5 ≡ (two_color n ends lent).report) × (lent ≡ (two_color n ends lent).colors)
     length_no h =
-        let q = (graph_accepted n ends c g e p).1 in
-        let t : not (eqb (length lent) n) ≡ true = simp (ne_eqb (length lent) n (λ l. h (l ∙ sym q))) in
+        let t : not (eqb (length lent) n) ≡ true = simp (ne_eqb (length lent) n h) in
         before_eight 5 (after_graph_lem ∙ first_refuses (not (eqb (length lent) n)) 5 [] t)
 
-    pub length_yes : length lent ≡ g.nodes → length lent ≡ n
-    length_yes h = h ∙ (graph_accepted n ends c g e p).1
-
-    pub checked_yes : (r : Report ℕ) (colors : List ℕ) → length lent ≡ g.nodes → r ≡ (sides_outcome n ends lent).report → colors ≡ (sides_outcome n ends lent).colors → (r ≡ (two_color n ends lent).report) × (colors ≡ (two_color n ends lent).colors)
+    pub checked_yes : (r : Report ℕ) (colors : List ℕ) → length lent ≡ n → r ≡ (sides_outcome n ends lent).report → colors ≡ (sides_outcome n ends lent).colors → (r ≡ (two_color n ends lent).report) × (colors ≡ (two_color n ends lent).colors)
     checked_yes r colors h a b =
-        let t : not (eqb (length lent) n) ≡ false = simp (eq-eqb (length lent) n (length_yes h)) in
+        let t : not (eqb (length lent) n) ≡ false = simp (eq-eqb (length lent) n h) in
         let o = after_input (after_graph_lem ∙ (first_passes (not (eqb (length lent) n)) 5 [] t ∙ all_passed)) in
         (a ∙ o.0, b ∙ o.1)
 

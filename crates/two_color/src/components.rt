@@ -4,7 +4,7 @@ ghost use Rattle.graph.specs.Check.{Passed};
 ghost use Rattle.graph.specs.Edges.{edge_count};
 ghost use Rattle.two_color.specs.Components.{Forest, Holds, Joined, Finds, Joins, Taken, Sided, NodesColored};
 
-use graph::NodeIndex;
+use graph::{CheckedGraph, NodeIndex};
 
 // The lowest node of a component, and whether the node that it was asked for is on the odd side.
 #[derive(Clone, Copy)]
@@ -125,20 +125,18 @@ fn write_sides(n: usize, up: &[u16], flips: &[bool], sides: &mut [u16])
 
 // Where the answer is true the first n colours are those of `sides`; where it is false an odd closed walk exists.
 pub(crate) fn color_nodes(
-    n: usize,
-    ends: &[u16],
+    graph: CheckedGraph<'_>,
     up: &mut [u16],
     flips: &mut [bool],
     colors: &mut [u16],
 ) -> bool
-    requires passed { Passed n ends.now }
     requires up_len { (length up.old ≡ 512) × (flips.old ≡ replicate 512 false) × (length colors.old ≡ 512) }
-    ensures nodes_colored { let ends = ends.entry.now in NodesColored ends (edge_count ends) n result colors.new }
+    ensures nodes_colored { let graph = graph.entry in NodesColored graph.ends.now (edge_count graph.ends.now) graph.nodes result colors.new }
 {
     start(up);
-    if !join_edges(ends, up, flips) {
+    if !join_edges(graph.ends, up, flips) {
         return false;
     }
-    write_sides(n, up, flips, colors);
+    write_sides(graph.nodes, up, flips, colors);
     true
 }

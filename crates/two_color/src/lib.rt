@@ -3,10 +3,9 @@
 
 ghost use Rattle.std.specs.Prelude.{◌≡◌, ℕ, ◌≤◌, ◌<◌, length, get_or};
 ghost use Rattle.graph.specs.Report.{report_of};
-ghost use Rattle.graph.specs.Check.{Passed};
 ghost use Rattle.two_color.specs.TwoColor.{two_color, sides_outcome, side_days, Bipartition};
 
-use graph::{Graph, Refusal, check_graph};
+use graph::{CheckedGraph, Graph, Refusal};
 
 mod components;
 
@@ -35,20 +34,19 @@ fn days_of_sides(n: usize, m: usize) -> usize
 }
 
 // A graph that passed the checks, and a place for each node.
-fn color_checked(n: usize, ends: &[u16], colors: &mut [u8]) -> Result<usize, Refusal>
-    requires passed { Passed n ends.now }
-    requires colors_len { length colors.old ≡ n }
-    ensures report { let ends = ends.entry.now in let colors = colors.entry.now in
-        report_of result ≡ (sides_outcome n ends colors).report }
-    ensures colors { let ends = ends.entry.now in let colors₀ = colors.old in
-        colors.new ≡ (sides_outcome n ends colors₀).colors }
+fn color_checked(graph: CheckedGraph<'_>, colors: &mut [u8]) -> Result<usize, Refusal>
+    requires colors_len { length colors.old ≡ graph.nodes }
+    ensures report { let graph = graph.entry in let colors = colors.entry.now in
+        report_of result ≡ (sides_outcome graph.nodes graph.ends.now colors).report }
+    ensures colors { let graph = graph.entry in let colors₀ = colors.old in
+        colors.new ≡ (sides_outcome graph.nodes graph.ends.now colors₀).colors }
 {
     let mut up = [0u16; Graph::MAX_NODES];
     let mut flips = [false; Graph::MAX_NODES];
     let mut sides = [0u16; Graph::MAX_NODES];
-    if components::color_nodes(n, ends, &mut up, &mut flips, &mut sides) {
-        copy_out(&sides[..n], colors);
-        let days = days_of_sides(n, ends.len() / 2);
+    if components::color_nodes(graph, &mut up, &mut flips, &mut sides) {
+        copy_out(&sides[..graph.nodes], colors);
+        let days = days_of_sides(graph.nodes, graph.edges());
         Ok(days)
     } else {
         Err(Refusal::OddClosedWalk)
@@ -64,9 +62,9 @@ pub fn two_color(n: usize, ends: &[u16], colors: &mut [u8]) -> Result<usize, Ref
     ensures bipartition { let ends = ends.entry.now in let colors₀ = colors.old in
         Bipartition n ends colors₀ (report_of result) colors.new }
 {
-    let graph = check_graph(n, ends)?;
+    let graph = CheckedGraph::new(n, ends)?;
     if colors.len() != graph.nodes {
         return Err(Refusal::WrongLength);
     }
-    color_checked(n, ends, colors)
+    color_checked(graph, colors)
 }

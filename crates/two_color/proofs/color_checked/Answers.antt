@@ -1,5 +1,6 @@
 -- `color_checked` meets its contract: two colours suffice or not, and the sides are copied out.
-use mathlib.Core.Path.{sym, ◌∙◌}
+use mathlib.Core.Path.{sym, ap, ◌∙◌}
+use Rattle.two_color.specs.TwoColor.{side_days}
 use borrow.Author.Rules.{rules}
 use Rattle.two_color.proofs.TwoColorLaws.{sides_fit, sides_days, sides_accepted, report_refused, colors_refused}
 use Rattle.two_color.proofs.color_checked.Goals as goal
@@ -12,7 +13,7 @@ copy_out-requires c = let s = c.color_nodes.ensures.nodes_colored.sided c.if-col
 
 pub returns-then-color_nodes : goal.returns-then-color_nodes
 returns-then-color_nodes c = let taken = c.if-color_nodes.true in
-    let days = c.days_of_sides-days.ensures.answer ∙ sides_days _ _ c.requires.passed (c.color_nodes.ensures.nodes_colored.even taken) in let all_parts = sides_accepted _ _ _ _ _ _ (c.color_nodes.ensures.nodes_colored.even taken) (c.color_nodes.ensures.nodes_colored.sided taken) days c.copy_out.ensures.colors in record { report = all_parts.0; colors = all_parts.1 }
+    let days = c.days_of_sides-days.ensures.answer ∙ (ap (side_days c.args.graph.nodes) c.edges.ensures.answer ∙ sides_days _ _ c.args.graph.passed (c.color_nodes.ensures.nodes_colored.even taken)) in let all_parts = sides_accepted _ _ _ _ _ _ (c.color_nodes.ensures.nodes_colored.even taken) (c.color_nodes.ensures.nodes_colored.sided taken) days c.copy_out.ensures.colors in record { report = all_parts.0; colors = all_parts.1 }
 
 -- Nothing is written where 8 is said.
 pub returns-else-color_nodes : goal.returns-else-color_nodes
