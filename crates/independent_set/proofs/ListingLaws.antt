@@ -1,17 +1,18 @@
 -- The list of uncoloured items as the code holds it, and what taking out and putting off do to it.
-use Prim.Native.Nat.{ℕ, suc, ◌+◌, ◌-◌, ◌≤◌, ◌<◌}
+use Prim.Native.Nat.{ℕ, zero, suc, ◌+◌, ◌-◌, ◌≤◌, ◌<◌}
 use mathlib.Core.Path.{◌≡◌, refl, sym, ap, ap₂, subst, ◌∙◌}
 use mathlib.Core.Logic.{inl, inr, ◌≢◌}
 use mathlib.Core.List.{List, [], ◌∷◌, ◌++◌, append-nil}
-use mathlib.Core.Bool.{Bool, true, false}
+use mathlib.Core.Bool.{true, false}
 use native.Mathlib.Omega.{arith}
 use native.Mathlib.Nat.{not-suc-le-zero}
 use native.Mathlib.Numerals.{add-one}
-use lib.ListN.{length, get_or, set, take, length-set}
-use lib.Seq.{get_or-set_same, get_or-set_other, get_or-take, length-take-le, take-set-lt, take-suc-set, take-take}
+use lib.ListN.{length, get_or, set, take, drop, length-append, length-drop, length-set, length-take}
+use lib.Seq.{get_or-set_same, get_or-set_other, get_or-take, length-take-le, take_all, take-append_seam, take-set-lt, take-suc-set, take-take}
 use lib.Dec.{eqb}
 use borrow.Author.Tests.{eqb-true, eqb-false}
 use Rattle.lists.proofs.Tests.{by-test, dec_eq}
+use Rattle.lists.specs.Parts.{copied_over}
 use Rattle.lists.specs.Member.{Mem, elem}
 use Rattle.lists.proofs.MemberLaws.{elem_true, mem_elem, not_mem_elem, mem_get_or, place_of_lem}
 use Rattle.graph.proofs.ColorLaws.{color_read, colored_true, uncolored_false}
@@ -27,15 +28,22 @@ lists_held n listed place next len end s h = ap₂ (λ (a b : List ℕ). record 
 pub held_at : (n : ℕ) (listed place next : List ℕ) (len end : ℕ) (s : Lists) → ListsHeld n listed place next len end s → ListsHeld n listed place next len end (lists_at listed next len end)
 held_at n listed place next len end s h = rw (lists_held n listed place next len end s h) h
 
-pub listing_at : (m n : ℕ) (listed place : List ℕ) (len : ℕ) (items : List ℕ) → m ≡ n → Listing m listed place len items → Listing n listed place len (take len listed)
-listing_at m n listed place len items e l = rw (← e, l.held) l
+copied_front : (len : ℕ) (from to : List ℕ) → len ≤ length from → len ≤ length to → take len (copied_over (take len from) to) ≡ take len from
+unfolding copied_over
+copied_front len from to a b =
+    let l = length-take-le len from a in
+    rw (take_all (length to) (take len from) (omega arith), l) (ap (λ (i : ℕ). take i (take len from ++ drop len to)) (sym l) ∙ take-append_seam (take len from) (drop len to))
+
+length-copied : (from to : List ℕ) → length (copied_over from to) ≡ length to
+unfolding copied_over
+length-copied from to = simp (length-append, length-take, length-drop) (omega arith)
 
 -- ---- one list
 
-pub length_items : (n : ℕ) (listed place : List ℕ) (len : ℕ) (items : List ℕ) → Listing n listed place len items → length items ≡ len
+length_items : (n : ℕ) (listed place : List ℕ) (len : ℕ) (items : List ℕ) → Listing n listed place len items → length items ≡ len
 length_items n listed place len items l = ap length (sym l.held) ∙ length-take-le len listed (omega (arith, l.size, l.few, l.room))
 
-pub item_at : (n : ℕ) (listed place : List ℕ) (len : ℕ) (items : List ℕ) → Listing n listed place len items → (j : ℕ) → j < len → get_or items j 0 ≡ get_or listed j 0
+item_at : (n : ℕ) (listed place : List ℕ) (len : ℕ) (items : List ℕ) → Listing n listed place len items → (j : ℕ) → j < len → get_or items j 0 ≡ get_or listed j 0
 item_at n listed place len items l j h = ap (λ (x : List ℕ). get_or x j 0) (sym l.held) ∙ get_or-take len listed j 0 h
 
 -- Where an item stands.
@@ -48,7 +56,7 @@ item_place n listed place len items l v p =
     (omega arith, ap (λ (i : ℕ). get_or listed i 0) q ∙ e)
 
 -- What stands at a place is an item.
-pub place_item : (n : ℕ) (listed place : List ℕ) (len : ℕ) (items : List ℕ) → Listing n listed place len items → (j : ℕ) → j < len → Mem (get_or listed j 0) items
+place_item : (n : ℕ) (listed place : List ℕ) (len : ℕ) (items : List ℕ) → Listing n listed place len items → (j : ℕ) → j < len → Mem (get_or listed j 0) items
 place_item n listed place len items l j h = subst (λ (x : ℕ). Mem x items) (item_at n listed place len items l j h) (mem_get_or items j 0 (omega (arith, length_items n listed place len items l)))
 
 -- The definition's place of a member.
@@ -69,14 +77,14 @@ place_same n listed place len items l v p =
 
 -- ---- whether an item is listed
 
-pub not_listed : (n : ℕ) (listed place : List ℕ) (len : ℕ) (items : List ℕ) (v : ℕ) → Listing n listed place len items → len ≤ get_or place v 0 → false ≡ elem v items
-not_listed n listed place len items v l h = sym (not_mem_elem v items (λ p. omega (arith, (item_place n listed place len items l v p).0)))
+not_listed : (n : ℕ) (listed place : List ℕ) (len : ℕ) (items : List ℕ) (v : ℕ) → Listing n listed place len items → len ≤ get_or place v 0 → elem v items ≡ false
+not_listed n listed place len items v l h = not_mem_elem v items (λ p. omega (arith, (item_place n listed place len items l v p).0))
 
-pub not_there : (n : ℕ) (listed place : List ℕ) (len : ℕ) (items : List ℕ) (v : ℕ) → Listing n listed place len items → (get_or listed (get_or place v 0) 0 ≡ v → ⊥) → false ≡ elem v items
-not_there n listed place len items v l d = sym (not_mem_elem v items (λ p. d (item_place n listed place len items l v p).1))
+not_there : (n : ℕ) (listed place : List ℕ) (len : ℕ) (items : List ℕ) (v : ℕ) → Listing n listed place len items → (get_or listed (get_or place v 0) 0 ≡ v → ⊥) → elem v items ≡ false
+not_there n listed place len items v l d = not_mem_elem v items (λ p. d (item_place n listed place len items l v p).1)
 
-pub listed_there : (n : ℕ) (listed place : List ℕ) (len : ℕ) (items : List ℕ) (v : ℕ) → Listing n listed place len items → get_or place v 0 < len → get_or listed (get_or place v 0) 0 ≡ v → true ≡ elem v items
-listed_there n listed place len items v l h e = sym (mem_elem v items (subst (λ (x : ℕ). Mem x items) e (place_item n listed place len items l (get_or place v 0) h)))
+listed_there : (n : ℕ) (listed place : List ℕ) (len : ℕ) (items : List ℕ) (v : ℕ) → Listing n listed place len items → get_or place v 0 < len → get_or listed (get_or place v 0) 0 ≡ v → elem v items ≡ true
+listed_there n listed place len items v l h e = mem_elem v items (subst (λ (x : ℕ). Mem x items) e (place_item n listed place len items l (get_or place v 0) h))
 
 -- ---- one item more
 
@@ -103,9 +111,12 @@ list_push n m listed place len items v l nm bound less space new = record {
 
 -- ---- the items without a colour
 
+none_held : (n : ℕ) (listed place : List ℕ) → n ≤ 4096 → length listed ≡ 4096 → length place ≡ 4096 → Listing n listed place 0 []
+none_held n listed place few a b = record { few = few; size = a; places = b; room = omega arith; inside = λ j h. absurd (not-suc-le-zero h); placed = λ j h. absurd (not-suc-le-zero h); held = refl }
+
 pub list_none : (listed place presets : List ℕ) → length listed ≡ 4096 → length place ≡ 4096 → Listing 0 listed place 0 (uncolored presets 0)
 unfolding uncolored
-list_none listed place presets a b = record { few = omega arith; size = a; places = b; room = omega arith; inside = λ j h. absurd (not-suc-le-zero h); placed = λ j h. absurd (not-suc-le-zero h); held = refl }
+list_none listed place presets a b = none_held 0 listed place (omega arith) a b
 
 module _ (n v : ℕ) (presets listed place : List ℕ) (len : ℕ) (l : Listing v listed place len (uncolored presets v)) (few : n ≤ 4096) (size : length presets ≡ n) (less : v < n) where
   pub list_more : get_or presets v 0 ≡ 65535 → Listing (v + 1) (set listed len v) (set place v len) (len + 1) (uncolored presets (v + 1))
@@ -119,6 +130,15 @@ module _ (n v : ℕ) (presets listed place : List ℕ) (len : ℕ) (l : Listing 
   list_skip e =
       let t = colored_true presets v (λ q. e (color_read presets v 0 (omega arith) ∙ q)) in
       rw (add-one v, uncolored, t) (rw (append-nil (uncolored presets v)) (record { few = omega arith; size = l.size; places = l.places; room = omega (arith, l.room); inside = λ j h. omega (arith, l.inside j h); placed = l.placed; held = l.held }))
+
+-- A list of items alone, none of them put off.
+pub alone_held : (m n : ℕ) (listed place next : List ℕ) (len : ℕ) (items : List ℕ) → m ≤ n → n ≤ 4096 → length next ≡ 4096 → Listing m listed place len items → ListsHeld n listed place next len 0 (record { listed = items; next = [] })
+alone_held m n listed place next len items b few spare l = record {
+  first = record { few = few; size = l.size; places = l.places; room = omega (arith, l.room); inside = λ j h. omega (arith, l.inside j h); placed = l.placed; held = l.held };
+  second = none_held n next place few spare l.places;
+  apart = λ i j a h. absurd (not-suc-le-zero h);
+  total = omega (arith, l.room);
+}
 
 -- ---- taking out
 
@@ -170,7 +190,7 @@ module _ (n : ℕ) (listed place next : List ℕ) (len end : ℕ) (s : Lists) (h
       let e = item_at n listed place len s.listed h.first (len - 1) (omega (arith, at.0)) in
       rw (l, p, e) (sym (ap (λ (x : List ℕ). take (len - 1) (set x hole last)) (sym h.first.held) ∙ (ap (take (len - 1)) (sym (take-set-lt len listed hole last at.0)) ∙ take-take (len - 1) len (set listed hole last) (omega arith))))
 
-  pub taken_out : (listed' place' : List ℕ) → listed' ≡ set listed hole last → place' ≡ set place last hole → ListsHeld n listed' place' next (len - 1) end (record { listed = take_out v s.listed; next = s.next })
+  taken_out : (listed' place' : List ℕ) → listed' ≡ set listed hole last → place' ≡ set place last hole → ListsHeld n listed' place' next (len - 1) end (record { listed = take_out v s.listed; next = s.next })
   taken_out listed' place' p q = rw (p, q) (record {
     first = record {
       few = h.first.few;
@@ -232,12 +252,59 @@ pub put_off_no : (s : Lists) (v : ℕ) → elem v s.listed ≡ false → put_off
 unfolding put_off
 put_off_no s v e = rw e
 
-module _ (n : ℕ) (listed place next : List ℕ) (len end : ℕ) (s : Lists) (h : ListsHeld n listed place next len end s) (v : ℕ) (r : Bool) (e : r ≡ elem v s.listed) where
-  pub put_off_listed : r ≡ true → (listed' place' : List ℕ) → listed' ≡ set listed (get_or place v 0) (get_or listed (len - 1) 0) → place' ≡ set place (get_or listed (len - 1) 0) (get_or place v 0)
-      → ListsHeld n listed' (set place' v end) (set next end v) (len - 1) (end + 1) (put_off s v)
-  unfolding put_off
-  put_off_listed t listed' place' p q = rw (sym e ∙ t) (put_off_taken n listed place next len end s h v (elem_true v s.listed (sym e ∙ t)) listed' place' p q)
+-- ---- what the arrays hold after each step
 
-  pub put_off_other : r ≡ false → ListsHeld n listed place next len end (put_off s v)
-  unfolding put_off
-  put_off_other t = rw (sym e ∙ t) h
+-- An item put off: it was not listed, or it was and is moved.
+module _ (n : ℕ) (listed place next : List ℕ) (len end : ℕ) (h : ListsHeld n listed place next len end (lists_at listed next len end)) (v : ℕ) where
+  pub put_off_unlisted : len ≤ get_or place v 0 → lists_at listed next len end ≡ put_off (lists_at listed next len end) v
+  put_off_unlisted b = sym (put_off_no (lists_at listed next len end) v (not_listed n listed place len (take len listed) v h.first b))
+
+  pub put_off_elsewhere : (get_or listed (get_or place v 0) 0 ≡ v → ⊥) → lists_at listed next len end ≡ put_off (lists_at listed next len end) v
+  put_off_elsewhere d = sym (put_off_no (lists_at listed next len end) v (not_there n listed place len (take len listed) v h.first d))
+
+  pub put_off_held : get_or place v 0 < len → get_or listed (get_or place v 0) 0 ≡ v → (listed' place' : List ℕ) → listed' ≡ set listed (get_or place v 0) (get_or listed (len - 1) 0) → place' ≡ set place (get_or listed (len - 1) 0) (get_or place v 0)
+      → ListsHeld n listed' (set place' v end) (set next end v) (len - 1) (end + 1) (put_off (lists_at listed next len end) v)
+  put_off_held b e listed' place' p q =
+      let t = listed_there n listed place len (take len listed) v h.first b e in
+      rw (put_off_yes (lists_at listed next len end) v t) (put_off_taken n listed place next len end (lists_at listed next len end) h v (elem_true v (take len listed) t) listed' place' p q)
+
+-- The front item, and the lists without it.
+pub front_first : (n : ℕ) (listed place : List ℕ) (len : ℕ) (items : List ℕ) → Listing n listed place len items → 0 < len → take 1 (take len listed) ≡ get_or listed 0 0 ∷ []
+front_first n listed place len items l more = front listed len more (omega (arith, l.size))
+  where
+    front : (xs : List ℕ) (k : ℕ) → 0 < k → 0 < length xs → take 1 (take k xs) ≡ get_or xs 0 0 ∷ []
+    front [] k a b = absurd (not-suc-le-zero b)
+    front (x ∷ xs) zero a b = absurd (not-suc-le-zero a)
+    front (x ∷ xs) (suc k) a b = refl
+
+pub front_out : (n : ℕ) (listed place next : List ℕ) (len end : ℕ) → ListsHeld n listed place next len end (lists_at listed next len end) → 0 < len → (listed' place' : List ℕ)
+    → listed' ≡ set listed (get_or place (get_or listed 0 0) 0) (get_or listed (len - 1) 0) → place' ≡ set place (get_or listed (len - 1) 0) (get_or place (get_or listed 0 0) 0)
+    → ListsHeld n listed' place' next (len - 1) end (record { listed = take_out (get_or listed 0 0) (take len listed); next = take end next })
+front_out n listed place next len end h more = taken_out n listed place next len end (lists_at listed next len end) h (get_or listed 0 0) (place_item n listed place len (take len listed) h.first 0 more)
+
+-- The next list copied over the list.
+pub turned : (n : ℕ) (listed place next : List ℕ) (len end : ℕ) (s : Lists) → ListsHeld n listed place next len end s → (copy : List ℕ) → copy ≡ copied_over (take end next) listed
+    → ListsHeld n copy place next end 0 (record { listed = take end next; next = [] })
+turned n listed place next len end s h copy e = record {
+  first = record {
+    few = l.few;
+    size = ap length e ∙ (length-copied (take end next) listed ∙ h.first.size);
+    places = l.places;
+    room = l.room;
+    inside = λ j b. rw (at j b) (l.inside j b);
+    placed = λ j b. rw (at j b) (l.placed j b);
+    held = same;
+  };
+  second = none_held n next place l.few l.size l.places;
+  apart = λ i j a b. absurd (not-suc-le-zero b);
+  total = omega (arith, l.room);
+}
+  where
+    l : Listing n next place end s.next
+    l = h.second
+
+    same : take end copy ≡ take end next
+    same = ap (take end) e ∙ copied_front end next listed (omega (arith, l.size, l.few, l.room)) (omega (arith, h.first.size, l.few, l.room))
+
+    at : (j : ℕ) → j < end → get_or copy j 0 ≡ get_or next j 0
+    at j b = sym (get_or-take end copy j 0 b) ∙ (ap (λ (x : List ℕ). get_or x j 0) same ∙ get_or-take end next j 0 b)

@@ -1,82 +1,102 @@
 -- The rounds as the code runs them: what is known at each turn of its loops.
 use Prim.Native.Nat.{ℕ, zero, suc, ◌+◌, ◌-◌, ◌≤◌, ◌<◌}
 use mathlib.Core.Path.{◌≡◌, refl, sym, ap, ap₂, subst, ◌∙◌}
-use mathlib.Core.List.{List, [], ◌∷◌, ◌++◌}
+use mathlib.Core.Logic.{◌⊎◌, inl, inr}
+use mathlib.Core.List.{List, [], ◌∷◌}
 use native.Mathlib.Omega.{arith}
 use native.Mathlib.Nat.{not-suc-le-zero, min-le_left}
 use native.Mathlib.Numerals.{add-one}
-use lib.ListN.{length, get_or, set, take, drop, length-take, length-set}
-use lib.Seq.{take_all, take-append_seam, get_or-take, length-take-le}
+use lib.ListN.{length, get_or, set, take, length-take, length-set}
 use lib.Dec.{eqb}
 use borrow.Author.Tests.{eq-eqb, ne_eqb}
 use Rattle.lists.proofs.Tests.{by-test}
 use Rattle.lists.specs.Member.{Mem, elem}
-use Rattle.lists.proofs.MemberLaws.{not_mem_elem}
-use Rattle.lists.specs.Parts.{copied_over}
+use Rattle.lists.proofs.MemberLaws.{elem_true, mem_append, mem_get_or, not_mem_elem}
 use Rattle.graph.specs.Colored.{color_of}
 use Rattle.graph.proofs.ColorLaws.{color_read}
 use Rattle.greedy.specs.Turn.{uncolored}
-use Rattle.greedy.specs.IndependentSet.{take_out, Lists, put_off, put_off_all, Round, put_off_presets, color_listed, round, rounds, independent_set_colors}
-use Rattle.independent_set.specs.Listing.{Listing, ListsHeld, lists_at}
-use Rattle.independent_set.proofs.ListingLaws.{lists_held, held_at, put_off_yes, put_off_no, length_items, place_item, item_at, taken_out}
-use Rattle.independent_set.specs.Rounds.{Rounded}
-
--- ---- a copy of the front
-
--- A copy of the front is listed as well.
-listing_copied : (n : ℕ) (listed place : List ℕ) (len : ℕ) (items : List ℕ) → Listing n listed place len items → (copy : List ℕ) → length copy ≡ 4096 → take len copy ≡ take len listed → Listing n copy place len (take len copy)
-listing_copied n listed place len items l copy size e = record {
-  few = l.few;
-  size = size;
-  places = l.places;
-  room = l.room;
-  inside = λ j h. rw (at j h) (l.inside j h);
-  placed = λ j h. rw (at j h) (l.placed j h);
-  held = refl;
-}
-  where
-    at : (j : ℕ) → j < len → get_or copy j 0 ≡ get_or listed j 0
-    at j h = sym (get_or-take len copy j 0 h) ∙ (ap (λ (x : List ℕ). get_or x j 0) e ∙ get_or-take len listed j 0 h)
-
-copied_front : (len : ℕ) (from to : List ℕ) → len ≤ length from → len ≤ length to → take len (copied_over (take len from) to) ≡ take len from
-unfolding copied_over
-copied_front len from to a b =
-    let l = length-take-le len from a in
-    rw (take_all (length to) (take len from) (omega arith), l) (ap (λ (i : ℕ). take i (take len from ++ drop len to)) (sym l) ∙ take-append_seam (take len from) (drop len to))
+use Rattle.greedy.proofs.TurnLaws.{uncolored_member}
+use Rattle.greedy.specs.IndependentSet.{place_of, take_out, Lists, put_off, put_off_all, Round, put_off_presets, color_listed, round, rounds, independent_set_colors}
+use Rattle.independent_set.specs.Rounds.{ListedBelow}
+use Rattle.independent_set.proofs.ListingLaws.{put_off_yes, put_off_no}
 
 -- ---- the presets of a colour
 
-pub presets_none : (n : ℕ) (nb : ℕ → List ℕ) (presets listed place next : List ℕ) (len end r : ℕ) (s : Lists) → ListsHeld n listed place next len end s → ListsHeld n listed place next len end (put_off_presets nb presets r 0 s)
+pub presets_none : (nb : ℕ → List ℕ) (presets : List ℕ) (r : ℕ) (s : Lists) → s ≡ put_off_presets nb presets r 0 s
 unfolding put_off_presets
-presets_none n nb presets listed place next len end r s h = h
+presets_none nb presets r s = refl
 
-module _ (n : ℕ) (nb : ℕ → List ℕ) (presets : List ℕ) (v r : ℕ) (s : Lists) (listed place next : List ℕ) (len end : ℕ) (h : ListsHeld n listed place next len end (put_off_presets nb presets r v s)) (size : length presets ≡ n) (less : v < n) where
-  pub presets_more : (listed' place' next' : List ℕ) (len' end' : ℕ) → get_or presets v 0 ≡ r → ListsHeld n listed' place' next' len' end' (put_off_all (lists_at listed next len end) (nb v))
-      → ListsHeld n listed' place' next' len' end' (put_off_presets nb presets r (v + 1) s)
+module _ (nb : ℕ → List ℕ) (presets : List ℕ) (v r : ℕ) (s t : Lists) (e : t ≡ put_off_presets nb presets r v s) (less : v < length presets) where
+  pub presets_more : (u : Lists) → get_or presets v 0 ≡ r → u ≡ put_off_all t (nb v) → u ≡ put_off_presets nb presets r (v + 1) s
   unfolding put_off_presets
-  presets_more listed' place' next' len' end' e k =
-      let t = eq-eqb (color_of presets v) r (sym (color_read presets v 0 (omega arith)) ∙ e) in
-      rw (add-one v, put_off_presets, t) (rw (lists_held n listed place next len end (put_off_presets nb presets r v s) h) at k)
+  presets_more u p q =
+      let test = eq-eqb (color_of presets v) r (sym (color_read presets v 0 less) ∙ p) in
+      rw (add-one v, put_off_presets, test, ← e) q
 
-  pub presets_skip : (get_or presets v 0 ≡ r → ⊥) → ListsHeld n listed place next len end (put_off_presets nb presets r (v + 1) s)
+  pub presets_skip : (get_or presets v 0 ≡ r → ⊥) → t ≡ put_off_presets nb presets r (v + 1) s
   unfolding put_off_presets
-  presets_skip e =
-      let t = ne_eqb (color_of presets v) r (λ q. e (color_read presets v 0 (omega arith) ∙ q)) in
-      rw (add-one v, put_off_presets, t) h
+  presets_skip d =
+      let test = ne_eqb (color_of presets v) r (λ q. d (color_read presets v 0 less ∙ q)) in
+      rw (add-one v, put_off_presets, test) e
 
-pub presets_done : (n : ℕ) (nb : ℕ → List ℕ) (presets : List ℕ) (v r : ℕ) (s : Lists) (listed place next : List ℕ) (len end : ℕ) → v ≤ n → n ≤ v → ListsHeld n listed place next len end (put_off_presets nb presets r v s)
-    → ListsHeld n listed place next len end (put_off_presets nb presets r n s)
-presets_done n nb presets v r s listed place next len end a b h = let e : v ≡ n = omega arith in subst (λ (w : ℕ). ListsHeld n listed place next len end (put_off_presets nb presets r w s)) e h
+-- ---- who is in the lists
 
--- ---- the listed items
+-- Putting off brings no one in.
+take_out_mem : (v k : ℕ) (l : List ℕ) → Mem k (take_out v l) → Mem k l
+unfolding take_out
+take_out_mem v k [] m = m
+take_out_mem v k (x ∷ l) m = set_mem (x ∷ l) (place_of v (x ∷ l)) (take_mem (length (x ∷ l) - 1) _ m)
+  where
+    take_mem : (n : ℕ) (xs : List ℕ) → Mem k (take n xs) → Mem k xs
+    take_mem zero xs p = absurd p
+    take_mem (suc n) [] p = p
+    take_mem (suc n) (y ∷ xs) (inl e) = inl e
+    take_mem (suc n) (y ∷ xs) (inr p) = inr (take_mem n xs p)
 
--- In the middle of a round: the turns that are left lead to what the round leaves.
-pub record Turning (n : ℕ) (nb : ℕ → List ℕ) (r : ℕ) (listed place next : List ℕ) (len end : ℕ) (colors : List ℕ) (after : Round) : Type 0 where
-  pub held : ListsHeld n listed place next len end (lists_at listed next len end)
-  pub size : length colors ≡ n
-  pub turns : ℕ
-  pub enough : len ≤ turns
-  pub same : color_listed nb r turns (lists_at listed next len end) colors ≡ after
+    set_at : (xs : List ℕ) (i y : ℕ) → Mem k (set xs i y) → Mem k xs ⊎ (k ≡ y)
+    set_at [] i y p = inl p
+    set_at (z ∷ xs) zero y (inl e) = inr e
+    set_at (z ∷ xs) zero y (inr p) = inl (inr p)
+    set_at (z ∷ xs) (suc i) y (inl e) = inl (inl e)
+    set_at (z ∷ xs) (suc i) y (inr p) = elim (set_at xs i y p) [ inl q ↦ inl (inr q) | inr e ↦ inr e ]
+
+    set_mem : (xs : List ℕ) (i : ℕ) → Mem k (set xs i (get_or xs (length xs - 1) 0)) → Mem k xs
+    set_mem [] i p = p
+    set_mem (y ∷ xs) i p = elim (set_at (y ∷ xs) i (get_or (y ∷ xs) (length (y ∷ xs) - 1) 0) p) [
+      | inl q ↦ q
+      | inr e ↦ subst (λ (z : ℕ). Mem z (y ∷ xs)) (sym e) (mem_get_or (y ∷ xs) (length (y ∷ xs) - 1) 0 (omega arith))
+    ]
+
+put_off_below : (n : ℕ) (s : Lists) (k : ℕ) → ListedBelow n s → ListedBelow n (put_off s k)
+put_off_below n s k b = by-test (elem k s.listed)
+    (λ e. rw (put_off_yes s k e) (λ v m. elim m [
+      | inl p ↦ b v (inl (take_out_mem k v s.listed p))
+      | inr p ↦ elim (mem_append v s.next (k ∷ []) p) [
+        | inl q ↦ b v (inr q)
+        | inr q ↦ elim q [ inl z ↦ rw z (b k (inl (elem_true k s.listed e))) | inr z ↦ absurd z ]
+      ]
+    ]))
+    (λ e. rw (put_off_no s k e) b)
+
+put_off_all_below : (n : ℕ) (s : Lists) (ks : List ℕ) → ListedBelow n s → ListedBelow n (put_off_all s ks)
+unfolding put_off_all
+put_off_all_below n s [] b = b
+put_off_all_below n s (k ∷ ks) b = put_off_all_below n (put_off s k) ks (put_off_below n s k b)
+
+put_off_presets_below : (n : ℕ) (nb : ℕ → List ℕ) (presets : List ℕ) (r m : ℕ) (s : Lists) → ListedBelow n s → ListedBelow n (put_off_presets nb presets r m s)
+unfolding put_off_presets
+put_off_presets_below n nb presets r zero s b = b
+put_off_presets_below n nb presets r (suc m) s b =
+    let i = put_off_presets_below n nb presets r m s b in
+    by-test (eqb (color_of presets m) r)
+    (λ t. rw (t, put_off_presets) (put_off_all_below n (put_off_presets nb presets r m s) (nb m) i))
+    (λ t. rw (t, put_off_presets) i)
+
+out_below : (n v : ℕ) (s : Lists) → ListedBelow n s → ListedBelow n (record { listed = take_out v s.listed; next = s.next })
+out_below n v s b u (inl p) = b u (inl (take_out_mem v u s.listed p))
+out_below n v s b u (inr p) = b u (inr p)
+
+-- ---- how many are listed
 
 -- Putting off makes no list longer.
 pub take_out_length : (v : ℕ) (l : List ℕ) → length (take_out v l) ≤ length l - 1
@@ -93,9 +113,7 @@ unfolding put_off_all
 put_off_length s [] = omega arith
 put_off_length s (k ∷ ks) = omega (arith, put_off_length (put_off s k) ks, put_off_one_length s k)
 
-pub turn_start : (n : ℕ) (nb : ℕ → List ℕ) (r : ℕ) (listed place next : List ℕ) (len end : ℕ) (colors : List ℕ) → ListsHeld n listed place next len end (lists_at listed next len end) → length colors ≡ n
-    → Turning n nb r listed place next len end colors (color_listed nb r len (lists_at listed next len end) colors)
-turn_start n nb r listed place next len end colors h e = record { held = h; size = e; turns = len; enough = omega arith; same = refl }
+-- ---- the listed items
 
 pub color_front : (nb : ℕ → List ℕ) (r t : ℕ) (l vs next colors : List ℕ) (v : ℕ) → l ≡ v ∷ vs
     → color_listed nb r (suc t) (record { listed = l; next = next }) colors ≡ color_listed nb r t (put_off_all (record { listed = take_out v l; next = next }) (nb v)) (set colors v r)
@@ -107,85 +125,68 @@ unfolding color_listed
 color_empty nb r zero l next colors e = refl
 color_empty nb r (suc t) l next colors e = rw e
 
-list_split : (l : List ℕ) → 0 < length l → (vs : List ℕ) × (l ≡ get_or l 0 0 ∷ vs)
-list_split [] h = absurd (not-suc-le-zero h)
-list_split (x ∷ l) h = (l, refl)
-
 pub list_empty : (l : List ℕ) → length l ≤ 0 → l ≡ []
 list_empty [] h = refl
 list_empty (x ∷ l) h = absurd (not-suc-le-zero h)
 
-module _ (n : ℕ) (nb : ℕ → List ℕ) (r : ℕ) (listed place next : List ℕ) (len end : ℕ) (colors : List ℕ) (after : Round) (turning : Turning n nb r listed place next len end colors after) where
-  pub turn_done : len ≤ 0 → Rounded n next place end colors after
-  turn_done h =
-      let l = list_empty (take len listed) (omega (arith, length_items n listed place len (take len listed) turning.held.first)) in
-      let e = sym (color_empty nb r turning.turns (take len listed) (take end next) colors l) ∙ turning.same in
-      record {
-        list = subst (λ (a : Round). Listing n next place end a.next) e turning.held.second;
-        size = turning.size;
-        same = ap (λ (a : Round). a.colors) e;
-      }
+-- In the middle of a round: the turns that are left lead to what the round leaves.
+pub record Turning (n : ℕ) (nb : ℕ → List ℕ) (r : ℕ) (s : Lists) (colors : List ℕ) (after : Round) : Type 0 where
+  pub below : ListedBelow n s
+  pub size : length colors ≡ n
+  pub turns : ℕ
+  pub enough : length s.listed ≤ turns
+  pub same : color_listed nb r turns s colors ≡ after
 
-  module _ (more : 0 < len) where
-    pub front_below : get_or listed 0 0 < n
-    front_below = turning.held.first.inside 0 more
+pub turn_start : (n : ℕ) (nb : ℕ → List ℕ) (r : ℕ) (s : Lists) (colors : List ℕ) → ListedBelow n s → length colors ≡ n → Turning n nb r s colors (color_listed nb r (length s.listed) s colors)
+turn_start n nb r s colors b e = record { below = b; size = e; turns = length s.listed; enough = omega arith; same = refl }
 
-    -- What taking it out asks.
-    pub front_inside : (get_or listed 0 0 < length place) × (get_or place (get_or listed 0 0) 0 < len) × (len ≤ length listed) × (get_or listed (len - 1) 0 < length place)
-    front_inside =
-        let l = turning.held.first in
-        (omega (arith, front_below, l.places, l.few), omega (arith, l.placed 0 more), omega (arith, l.size, l.few, l.room), omega (arith, l.inside (len - 1) (omega arith), l.places, l.few))
+-- The front item, as the code takes it out.
+front_split : (v : ℕ) (l : List ℕ) → take 1 l ≡ v ∷ [] → (vs : List ℕ) × (l ≡ v ∷ vs)
+front_split v [] e = absurd (omega (arith, ap length e))
+front_split v (x ∷ l) e = (l, ap (λ (y : List ℕ). get_or y 0 0 ∷ l) e)
 
-    front_member : Mem (get_or listed 0 0) (take len listed)
-    front_member = place_item n listed place len (take len listed) turning.held.first 0 more
+module _ (n : ℕ) (nb : ℕ → List ℕ) (r : ℕ) (s : Lists) (colors : List ℕ) (after : Round) (turning : Turning n nb r s colors after) where
+  pub turn_done : s.listed ≡ [] → (s ≡ record { listed = []; next = after.next }) × (colors ≡ after.colors)
+  turn_done e =
+      let same = sym (color_empty nb r turning.turns s.listed s.next colors e) ∙ turning.same in
+      (ap₂ (λ (a b : List ℕ). record { listed = a; next = b }) e (ap (λ (a : Round). a.next) same), ap (λ (a : Round). a.colors) same)
 
-    module _ (listed₁ place₁ : List ℕ) (p : listed₁ ≡ set listed (get_or place (get_or listed 0 0) 0) (get_or listed (len - 1) 0)) (q : place₁ ≡ set place (get_or listed (len - 1) 0) (get_or place (get_or listed 0 0) 0)) where
-      taken : ListsHeld n listed₁ place₁ next (len - 1) end (record { listed = take_out (get_or listed 0 0) (take len listed); next = take end next })
-      taken = taken_out n listed place next len end (lists_at listed next len end) turning.held (get_or listed 0 0) front_member listed₁ place₁ p q
+  module _ (v : ℕ) (t : Lists) (taken : (take 1 s.listed ≡ v ∷ []) × (t ≡ record { listed = take_out v s.listed; next = s.next })) where
+    split : (vs : List ℕ) × (s.listed ≡ v ∷ vs)
+    split = front_split v s.listed taken.0
 
-      pub front_taken : ListsHeld n listed₁ place₁ next (len - 1) end (lists_at listed₁ next (len - 1) end)
-      front_taken = held_at n listed₁ place₁ next (len - 1) end (record { listed = take_out (get_or listed 0 0) (take len listed); next = take end next }) taken
+    pub front_below : v < n
+    front_below = turning.below v (inl (rw split.1 (inl refl)))
 
-      module _ (listed₂ place₂ next₂ : List ℕ) (len₂ end₂ : ℕ) (k : ListsHeld n listed₂ place₂ next₂ len₂ end₂ (put_off_all (lists_at listed₁ next (len - 1) end) (nb (get_or listed 0 0)))) where
-        -- The list falls.
-        pub turn_less : len₂ < len
-        turn_less = omega (
-          arith,
-          length_items n listed₂ place₂ len₂ (put_off_all (lists_at listed₁ next (len - 1) end) (nb (get_or listed 0 0))).listed k.first,
-          put_off_length (lists_at listed₁ next (len - 1) end) (nb (get_or listed 0 0)),
-          length_items n listed₁ place₁ (len - 1) (take (len - 1) listed₁) front_taken.first,
-        )
+    module _ (u : Lists) (e : u ≡ put_off_all t (nb v)) where
+      -- The list falls.
+      pub turn_less : length u.listed < length s.listed
+      turn_less = omega (arith, ap (λ (x : Lists). length x.listed) e, put_off_length t (nb v), ap (λ (x : Lists). length x.listed) taken.1, take_out_length v s.listed, ap length split.1)
 
-        pub turn_more : Turning n nb r listed₂ place₂ next₂ len₂ end₂ (set colors (get_or listed 0 0) r) after
-        turn_more = go turning.turns turning.enough turning.same
-          where
-            go : (turns : ℕ) → len ≤ turns → color_listed nb r turns (lists_at listed next len end) colors ≡ after → Turning n nb r listed₂ place₂ next₂ len₂ end₂ (set colors (get_or listed 0 0) r) after
-            go zero b e = let z : ⊥ = omega arith in absurd z
-            go (suc t) b e =
-                let sp = list_split (take len listed) (omega (arith, length_items n listed place len (take len listed) turning.held.first)) in
-                let fr = item_at n listed place len (take len listed) turning.held.first 0 more in
-                let c = color_front nb r t (take len listed) sp.0 (take end next) colors (get_or listed 0 0) (sp.1 ∙ ap (λ (x : ℕ). x ∷ sp.0) fr) in
-                record {
-                  held = held_at n listed₂ place₂ next₂ len₂ end₂ (put_off_all (lists_at listed₁ next (len - 1) end) (nb (get_or listed 0 0))) k;
-                  size = length-set colors (get_or listed 0 0) r ∙ turning.size;
-                  turns = t;
-                  enough = omega (arith, turn_less);
-                  same = ap (λ (s : Lists). color_listed nb r t s (set colors (get_or listed 0 0) r)) (lists_held n listed₂ place₂ next₂ len₂ end₂ (put_off_all (lists_at listed₁ next (len - 1) end) (nb (get_or listed 0 0))) k ∙ ap (λ (s : Lists). put_off_all s (nb (get_or listed 0 0))) (lists_held n listed₁ place₁ next (len - 1) end (record { listed = take_out (get_or listed 0 0) (take len listed); next = take end next }) taken)) ∙ (sym c ∙ e);
-                }
+      pub turn_more : Turning n nb r u (set colors v r) after
+      turn_more = go turning.turns turning.enough turning.same
+        where
+          go : (turns : ℕ) → length s.listed ≤ turns → color_listed nb r turns s colors ≡ after → Turning n nb r u (set colors v r) after
+          go zero b p = let z : ⊥ = omega (arith, turn_less) in absurd z
+          go (suc turns) b p = record {
+            below = rw (e, taken.1) (put_off_all_below n (record { listed = take_out v s.listed; next = s.next }) (nb v) (out_below n v s turning.below));
+            size = length-set colors v r ∙ turning.size;
+            turns = turns;
+            enough = omega (arith, turn_less);
+            same = rw (e, taken.1) (sym (color_front nb r turns s.listed split.0 s.next colors v split.1) ∙ p);
+          }
 
 -- ---- one round after the other
 
 -- Between rounds: the rounds that are left lead to the answer.
-pub record Rounding (n : ℕ) (nb : ℕ → List ℕ) (presets listed place next : List ℕ) (len r : ℕ) (colors answer : List ℕ) : Type 0 where
-  pub list : Listing n listed place len (take len listed)
-  pub spare : length next ≡ 4096
+pub record Rounding (n : ℕ) (nb : ℕ → List ℕ) (presets : List ℕ) (s : Lists) (r : ℕ) (colors answer : List ℕ) : Type 0 where
+  pub below : ListedBelow n s
+  pub none : s.next ≡ []
   pub size : length colors ≡ n
-  pub bound : r ≤ n
-  pub same : rounds nb n presets (n - r) r (take len listed) colors ≡ answer
+  pub same : rounds nb n presets (n - r) r s.listed colors ≡ answer
 
-pub rounds_start : (n : ℕ) (nb : ℕ → List ℕ) (presets listed place next : List ℕ) (len : ℕ) (colors : List ℕ) → Listing n listed place len (take len listed) → length next ≡ 4096 → length colors ≡ n
-    → Rounding n nb presets listed place next len 0 colors (rounds nb n presets n 0 (take len listed) colors)
-rounds_start n nb presets listed place next len colors l a b = record { list = l; spare = a; size = b; bound = omega arith; same = let e : n - 0 ≡ n = omega arith in rw e }
+pub rounds_start : (n : ℕ) (nb : ℕ → List ℕ) (presets : List ℕ) (s : Lists) (colors : List ℕ) → ListedBelow n s → s.next ≡ [] → length colors ≡ n → Rounding n nb presets s 0 colors (rounds nb n presets n 0 s.listed colors)
+rounds_start n nb presets s colors b a e = record { below = b; none = a; size = e; same = let z : n - 0 ≡ n = omega arith in rw z }
 
 -- A round with nothing listed changes nothing.
 put_off_empty : (s : Lists) (ks : List ℕ) → s.listed ≡ [] → put_off_all s ks ≡ s
@@ -209,57 +210,39 @@ unfolding rounds
 rounds_empty nb n presets zero r colors = refl
 rounds_empty nb n presets (suc more) r colors = rw (round_empty nb n presets r colors) (rounds_empty nb n presets more (suc r) colors)
 
-module _ (n : ℕ) (nb : ℕ → List ℕ) (presets listed place next : List ℕ) (len r : ℕ) (colors answer : List ℕ) (rounding : Rounding n nb presets listed place next len r colors answer) where
-  pub rounds_over : len ≡ 0 → colors ≡ answer
-  rounds_over e =
-      let l = list_empty (take len listed) (omega (arith, length_items n listed place len (take len listed) rounding.list)) in
-      sym (rounds_empty nb n presets (n - r) r colors) ∙ (ap (λ (x : List ℕ). rounds nb n presets (n - r) r x colors) (sym l) ∙ rounding.same)
+module _ (n : ℕ) (nb : ℕ → List ℕ) (presets : List ℕ) (s : Lists) (r : ℕ) (colors answer : List ℕ) (rounding : Rounding n nb presets s r colors answer) where
+  pub rounds_over : s.listed ≡ [] → colors ≡ answer
+  rounds_over e = sym (rounds_empty nb n presets (n - r) r colors) ∙ (ap (λ (x : List ℕ). rounds nb n presets (n - r) r x colors) (sym e) ∙ rounding.same)
 
   pub rounds_done : n ≤ r → colors ≡ answer
   unfolding rounds
   rounds_done h = let z : n - r ≡ 0 = omega arith in rw z at rounding.same
 
-  pub round_held : ListsHeld n listed place next len 0 (lists_at listed next len 0)
-  round_held = record {
-    first = rounding.list;
-    second = record {
-      few = rounding.list.few;
-      size = rounding.spare;
-      places = rounding.list.places;
-      room = omega arith;
-      inside = λ j h. absurd (not-suc-le-zero h);
-      placed = λ j h. absurd (not-suc-le-zero h);
-      held = refl;
-    };
-    apart = λ i j a b. absurd (not-suc-le-zero b);
-    total = omega (arith, rounding.list.room);
-  }
+  module _ (t : Lists) (e : t ≡ put_off_presets nb presets r n s) where
+    pub round_below : ListedBelow n t
+    round_below = rw e (put_off_presets_below n nb presets r n s rounding.below)
 
-  pub round_more : r < n → (listed₁ place₁ next₁ : List ℕ) (len₁ end₁ : ℕ) → ListsHeld n listed₁ place₁ next₁ len₁ end₁ (put_off_presets nb presets r n (lists_at listed next len 0))
-      → (next₂ place₂ colors₂ : List ℕ) (len₂ : ℕ) → Rounded n next₂ place₂ len₂ colors₂ (color_listed nb r len₁ (lists_at listed₁ next₁ len₁ end₁) colors)
-      → (before listed₂ : List ℕ) → length before ≡ length listed₁ → length listed₂ ≡ length before → listed₂ ≡ copied_over (take len₂ next₂) before
-      → Rounding n nb presets listed₂ place₂ next₂ len₂ (r + 1) colors₂ answer
-  unfolding rounds round
-  round_more h listed₁ place₁ next₁ len₁ end₁ k next₂ place₂ colors₂ len₂ d before listed₂ sz sz₂ cp =
-      let size₂ : length before ≡ 4096 = sz ∙ k.first.size in
-      let same₂ : take len₂ listed₂ ≡ take len₂ next₂ = ap (take len₂) cp ∙ copied_front len₂ next₂ before (omega (arith, d.list.size, d.list.room, d.list.few)) (omega (arith, d.list.room, d.list.few)) in
-      let s = put_off_presets nb presets r n (lists_at listed next len 0) in
-      let i : len₁ ≡ length s.listed = sym (length_items n listed₁ place₁ len₁ s.listed k.first) in
-      let a : color_listed nb r len₁ (lists_at listed₁ next₁ len₁ end₁) colors ≡ round nb n presets r (take len listed) colors = ap₂ (λ (t : ℕ) (x : Lists). color_listed nb r t x colors) i (lists_held n listed₁ place₁ next₁ len₁ end₁ s k) in
-      let f : n - r ≡ suc (n - (r + 1)) = omega arith in
-      let step : rounds nb n presets (n - r) r (take len listed) colors ≡ rounds nb n presets (n - (r + 1)) (suc r) (round nb n presets r (take len listed) colors).next (round nb n presets r (take len listed) colors).colors = rw f in
-      let u : take len₂ listed₂ ≡ (round nb n presets r (take len listed) colors).next = same₂ ∙ (d.list.held ∙ ap (λ (x : Round). x.next) a) in
-      let w : colors₂ ≡ (round nb n presets r (take len listed) colors).colors = d.same ∙ ap (λ (x : Round). x.colors) a in
-      record {
-        list = listing_copied n next₂ place₂ len₂ (color_listed nb r len₁ (lists_at listed₁ next₁ len₁ end₁) colors).next d.list listed₂ (sz₂ ∙ size₂) same₂;
-        spare = d.list.size;
-        size = d.size;
-        bound = omega arith;
-        same = rw (add-one r, u, w) (sym (rw (add-one r) at step) ∙ rounding.same);
-      }
+    pub round_more : r < n → (u w : Lists) (colors' : List ℕ) → (u ≡ record { listed = []; next = (color_listed nb r (length t.listed) t colors).next }) × (colors' ≡ (color_listed nb r (length t.listed) t colors).colors)
+        → ListedBelow n u → length colors' ≡ n → w ≡ record { listed = u.next; next = [] } → Rounding n nb presets w (r + 1) colors' answer
+    unfolding rounds round
+    round_more h u w colors' p b size q =
+        let alone : s ≡ record { listed = s.listed; next = [] } = ap (λ (x : List ℕ). record { listed = s.listed; next = x }) rounding.none in
+        let after : color_listed nb r (length t.listed) t colors ≡ round nb n presets r s.listed colors = ap (λ (x : Lists). color_listed nb r (length x.listed) x colors) (e ∙ ap (put_off_presets nb presets r n) alone) in
+        let next : w.listed ≡ (round nb n presets r s.listed colors).next = ap (λ (x : Lists). x.listed) q ∙ (ap (λ (x : Lists). x.next) p.0 ∙ ap (λ (x : Round). x.next) after) in
+        let f : n - r ≡ suc (n - (r + 1)) = omega arith in
+        let step : rounds nb n presets (n - r) r s.listed colors ≡ rounds nb n presets (n - (r + 1)) (suc r) (round nb n presets r s.listed colors).next (round nb n presets r s.listed colors).colors = rw f in
+        record {
+          below = rw q (λ v m. elim m [ inl x ↦ b v (inr x) | inr z ↦ absurd z ]);
+          none = ap (λ (x : Lists). x.next) q;
+          size = size;
+          same = rw (add-one r, next, p.1, after) (sym (rw (add-one r) at step) ∙ rounding.same);
+        }
 
 -- The answer of the whole call.
-pub colors_answer : (n : ℕ) (nb : ℕ → List ℕ) (presets listed place : List ℕ) (len : ℕ) (colors answer : List ℕ) → length presets ≡ n → Listing (length presets) listed place len (uncolored presets (length presets)) → colors ≡ presets
-    → answer ≡ rounds nb n presets n 0 (take len listed) colors → answer ≡ independent_set_colors nb n presets
+pub colors_answer : (n : ℕ) (nb : ℕ → List ℕ) (presets colors answer : List ℕ) (s : Lists) → length presets ≡ n → s ≡ record { listed = uncolored presets (length presets); next = [] } → colors ≡ presets → answer ≡ rounds nb n presets n 0 s.listed colors
+    → answer ≡ independent_set_colors nb n presets
 unfolding independent_set_colors
-colors_answer n nb presets listed place len colors answer s l p e = e ∙ ap₂ (λ (x y : List ℕ). rounds nb n presets n 0 x y) (l.held ∙ ap (uncolored presets) s) p
+colors_answer n nb presets colors answer s e l p a = a ∙ ap₂ (λ (x y : List ℕ). rounds nb n presets n 0 x y) (ap (λ (x : Lists). x.listed) l ∙ ap (uncolored presets) e) p
+
+pub uncolored_below : (n : ℕ) (presets : List ℕ) (s : Lists) → length presets ≡ n → s ≡ record { listed = uncolored presets (length presets); next = [] } → ListedBelow n s
+uncolored_below n presets s e l = rw l (λ v m. elim m [ inl p ↦ omega (arith, (uncolored_member presets (length presets) v p).0) | inr z ↦ absurd z ])

@@ -1,4 +1,3 @@
--- Greedy colouring by independent sets: the list of uncoloured items as the code holds it, the items, the rounds.
+-- Greedy colouring by independent sets: the list of uncoloured items as the code holds it, the rounds.
 pub mod Listing
-pub mod Items
 pub mod Rounds

@@ -1,10 +1,8 @@
--- The rounds as the code runs them: what is known at each turn of its loops.
-use Rattle.std.specs.Prelude.{ℕ, ◌≡◌, List, length}
-use Rattle.greedy.specs.IndependentSet.{Round}
-use Rattle.independent_set.specs.Listing.{Listing}
+-- The lists between the turns of the loops.
+use Rattle.std.specs.Prelude.{ℕ, ◌<◌, ◌⊎◌}
+use Rattle.lists.specs.Member.{Mem}
+use Rattle.greedy.specs.IndependentSet.{Lists}
 
--- What a round leaves, in the arrays.
-pub record Rounded (n : ℕ) (next place : List ℕ) (end : ℕ) (colors : List ℕ) (after : Round) : Type 0 where
-  pub list : Listing n next place end after.next
-  pub size : length colors ≡ n
-  pub same : colors ≡ after.colors
+-- The items listed and put off are of n.
+abbrev pub ListedBelow : ℕ → Lists → Type 0
+ListedBelow n s = (v : ℕ) → Mem v s.listed ⊎ Mem v s.next → v < n

@@ -1,65 +1,35 @@
 // The neighbours of an edge, told from the edges at its ends: those after it at the higher end, last first, then at the lower, then
 // those before it, the same way. A loop has one end only.
-ghost use Rattle.std.specs.Prelude.{true, ◌≡◌, reverse, ℕ, ◌<◌};
+ghost use Rattle.std.specs.Prelude.{◌≡◌, reverse, ℕ, ◌<◌};
 ghost use Rattle.lists.specs.Member.{Mem};
+ghost use Rattle.graph.specs.Edges.{edge_count};
 ghost use Rattle.greedy.specs.IndependentSet.{put_off_all};
-ghost use Rattle.independent_set.specs.Items.{neighbors_of, ItemsTabled};
-ghost use Rattle.independent_set.specs.Listing.{ListsHeld, lists_at};
+ghost use Rattle.items.specs.declared.Kind.TheVariants.{Edges};
+ghost use Rattle.items.specs.Items.{neighbors_of};
 
-use crate::items::Items;
-use crate::list::{Counts, put_off};
+use crate::list::Lists;
+use edge_walk::IncidenceTable;
 use graph::EdgeIndex;
 use line_graph::node_of_edge;
 use line_parts::part_at;
 
-// The listed ones of these edges, of `count`, are put off, last first.
-fn put_off_part(
-    count: usize,
-    edges: &[u16],
-    listed: &mut [u16],
-    place: &mut [u16],
-    next: &mut [u16],
-    counts: Counts,
-) -> Counts
-    requires by_index { (j : ℕ) → Mem j edges.now → j < count }
-    requires lists_held { ListsHeld count listed.old place.old next.old counts.listed counts.next (lists_at listed.old next.old counts.listed counts.next) }
-    ensures held { let listed₀ = listed.old in let next₀ = next.old in let edges = edges.entry.now in
-        ListsHeld count listed.new place.new next.new result.listed result.next (put_off_all (lists_at listed₀ next₀ counts.listed counts.next) (reverse edges)) }
+// The listed ones of these edges are put off, last first.
+fn put_off_part(edges: &[u16], lists: &mut Lists)
+    requires in_bounds { (j : ℕ) → Mem j edges.now → j < 4096 }
+    ensures put_off { let edges = edges.entry.now in lists.new ≡ put_off_all lists.old (reverse edges) }
 {
-    let mut reached = counts;
-    let mut i = edges.len();
-    while 0 < i {
-        i -= 1;
-        let item = node_of_edge(EdgeIndex(edges[i]));
-        reached = put_off(count, listed, place, next, reached, item);
+    for edge in edges.iter().rev() {
+        lists.put_off(node_of_edge(EdgeIndex(*edge)));
     }
-    reached
 }
 
 // The listed edges that share an end with an edge are put off, in the order of the line list.
-pub(crate) fn put_off_sharing(
-    items: Items,
-    ends: &[u16],
-    starts: &[u16],
-    entries: &[u16],
-    listed: &mut [u16],
-    place: &mut [u16],
-    next: &mut [u16],
-    counts: Counts,
-    edge: EdgeIndex,
-) -> Counts
-    requires edges_value { (items.edges ≡ true) × ItemsTabled items ends.now starts.now entries.now × (edge.0 < items.count) }
-    requires lists_held { ListsHeld items.count listed.old place.old next.old counts.listed counts.next (lists_at listed.old next.old counts.listed counts.next) }
-    ensures held { let listed₀ = listed.old in let next₀ = next.old in let ends = ends.entry.now in
-        ListsHeld items.count listed.new place.new next.new result.listed result.next
-        (put_off_all (lists_at listed₀ next₀ counts.listed counts.next) (neighbors_of items ends edge.0)) }
+pub(crate) fn put_off_sharing(table: IncidenceTable, lists: &mut Lists, edge: EdgeIndex)
+    requires edge_in_bounds { edge.0 < edge_count table.ends.now }
+    ensures put_off { let table = table.entry in lists.new ≡ put_off_all lists.old (neighbors_of Edges table.nodes table.ends.now edge.0) }
 {
-    let mut reached = counts;
-    let mut turn = 0;
-    while turn < 4 {
-        let part = part_at(ends, starts, entries, edge, turn);
-        reached = put_off_part(items.count, part, listed, place, next, reached);
-        turn += 1;
+    for turn in 0..4 {
+        let part = part_at(table.ends, table.starts, table.entries, edge, turn);
+        put_off_part(part, lists);
     }
-    reached
 }

@@ -1,42 +1,38 @@
-// The list of uncoloured items: an array of items with a length, and each listed item's place in it. Places are never cleared: an
-// item is listed if its place is below the length and the item stands there. An item is a node of the graph that is coloured: the graph
-// itself, or its line graph.
-ghost use Rattle.std.specs.Prelude.{◌≡◌, ◌-◌, ◌≤◌, ◌<◌, length, get_or, set};
+// The lists of a round: the uncoloured items that are listed, and those put off to the next round, each an array with a length, and each
+// item's place in its list. Places are never cleared: an item is listed if its place is below the length and the item stands there. An
+// item is a node of the graph that is coloured: the graph itself, or its line graph.
+ghost use Rattle.std.specs.Prelude.{◌≡◌, ◌-◌, ◌≤◌, ◌<◌, [], ◌∷◌, length, get_or, set, take, MatchOption, IsTrue, ◌↔◌};
 ghost use Rattle.greedy.specs.Turn.{uncolored};
-ghost use Rattle.greedy.specs.IndependentSet.{put_off};
-ghost use Rattle.independent_set.specs.Listing.{Listing, ListsHeld, lists_at};
+ghost use Rattle.greedy.specs.IndependentSet.{put_off, take_out};
 
-use graph::{Color, NodeIndex};
+use graph::{Color, Graph, NodeIndex, copy_colors};
+use std::marker::Model;
 
-// How many items are listed, and how many are put off to the next round.
-#[derive(Clone, Copy)]
-pub struct Counts {
-    pub listed: usize,
-    pub next: usize,
+// The two counts stand before the arrays, and what changes them reads both before its first store: so the compiler keeps them in registers
+// over a loop.
+#[derive(Drop)]
+pub(crate) struct Lists {
+    len: usize,
+    end: usize,
+    listed: [u16; Graph::MAX_EDGES],
+    place: [u16; Graph::MAX_EDGES],
+    next: [u16; Graph::MAX_EDGES],
 }
 
-// Lists the items without a colour, rising; how many they are.
-pub(crate) fn list_uncolored(presets: &[u16], listed: &mut [u16], place: &mut [u16]) -> usize
-    requires { (length presets.now ≤ 4096) × (length listed.old ≡ 4096) × (length place.old ≡ 4096) }
-    ensures listing { let presets = presets.entry.now in
-        Listing (length presets) listed.new place.new result (uncolored presets (length presets)) }
-{
-    let mut len = 0;
-    let mut v = 0;
-    while v < presets.len() {
-        let item = v;
-        v += 1;
-        if presets[item] == Color::NONE {
-            listed[len] = item as u16;
-            place[item] = len as u16;
-            len += 1;
-        }
-    }
-    len
+// Clauses see the items of both lists, in their order.
+impl Model for Lists {
+    ghost use Rattle.greedy.specs.IndependentSet as definition;
+    ghost use Rattle.independent_set.specs.Listing.{ListsHeld, lists_at};
+
+    ghost Value = { definition.Lists };
+
+    ghost view = { λ s. lists_at s.listed s.next s.len s.end };
+
+    ghost invariant = { λ s. ListsHeld 4096 s.listed s.place s.next s.len s.end (lists_at s.listed s.next s.len s.end) };
 }
 
 // Takes a listed item out: the last of the list goes to its place.
-pub(crate) fn take_out(listed: &mut [u16], place: &mut [u16], len: usize, item: NodeIndex)
+fn take_out(listed: &mut [u16], place: &mut [u16], len: usize, item: NodeIndex)
     requires { (item.0 < length place.old) × (get_or place.old item.0 0 < len) × (len ≤ length listed.old) × (get_or listed.old (len - 1) 0 < length place.old) }
     ensures listed_and_place { let listed₀ = listed.old in let place₀ = place.old in
         (listed.new ≡ set listed₀ (get_or place₀ item.0 0) (get_or listed₀ (len - 1) 0))
@@ -48,38 +44,80 @@ pub(crate) fn take_out(listed: &mut [u16], place: &mut [u16], len: usize, item: 
     place[last as usize] = hole;
 }
 
-// A listed item, one of `count`, is taken out and goes to the end of the next list.
-pub(crate) fn put_off(
-    count: usize,
-    listed: &mut [u16],
-    place: &mut [u16],
-    next: &mut [u16],
-    counts: Counts,
-    item: NodeIndex,
-) -> Counts
-    requires lists_held { ListsHeld count listed.old place.old next.old counts.listed counts.next (lists_at listed.old next.old counts.listed counts.next) }
-    requires item_lt_count { item.0 < count }
-    ensures held { let listed₀ = listed.old in let next₀ = next.old in
-        ListsHeld count listed.new place.new next.new result.listed result.next (put_off (lists_at listed₀ next₀ counts.listed counts.next) item.0) }
-{
-    let len = counts.listed;
-    let end = counts.next;
-    let v = item.0 as usize;
-    let hole = place[v];
-    let here = hole as usize;
-    if len <= here {
-        return counts;
+impl Lists {
+    pub(crate) fn new() -> Lists
+        ensures empty { result ≡ record { listed = []; next = [] } }
+    {
+        Lists {
+            len: 0,
+            end: 0,
+            listed: [0; Graph::MAX_EDGES],
+            place: [0; Graph::MAX_EDGES],
+            next: [0; Graph::MAX_EDGES],
+        }
     }
-    if listed[here] != item.0 {
-        return counts;
+
+    pub(crate) fn is_empty(&self) -> bool
+        ensures answer { IsTrue result ↔ (self.now.listed ≡ []) }
+    {
+        self.len == 0
     }
-    let last = listed[len - 1];
-    listed[here] = last;
-    place[last as usize] = hole;
-    next[end] = item.0;
-    place[v] = end as u16;
-    Counts {
-        listed: len - 1,
-        next: end + 1,
+
+    // Lists the items without a colour, rising; none is put off.
+    pub(crate) fn list_uncolored(&mut self, presets: &[u16])
+        requires { length presets.now ≤ 4096 }
+        ensures listed { let presets = presets.entry.now in self.new ≡ record { listed = uncolored presets (length presets); next = [] } }
+    {
+        let mut len = 0;
+        for (item, preset) in presets.iter().enumerate() {
+            if *preset == Color::NONE {
+                self.listed[len] = item as u16;
+                self.place[item] = len as u16;
+                len += 1;
+            }
+        }
+        self.len = len;
+        self.end = 0;
+    }
+
+    // A listed item is taken out and goes to the end of the next list.
+    pub(crate) fn put_off(&mut self, item: NodeIndex)
+        requires { item.0 < 4096 }
+        ensures put_off { self.new ≡ put_off self.old item.0 }
+    {
+        let len = self.len;
+        let end = self.end;
+        let here = self.place[item.0 as usize] as usize;
+        if here < len && self.listed[here] == item.0 {
+            take_out(&mut self.listed, &mut self.place, len, item);
+            self.next[end] = item.0;
+            self.place[item.0 as usize] = end as u16;
+            self.len = len - 1;
+            self.end = end + 1;
+        }
+    }
+
+    // Takes the front item out, if one is listed.
+    pub(crate) fn take_front(&mut self) -> Option<NodeIndex>
+        ensures taken { let s = self.old in let t = self.new in
+            MatchOption result ((s.listed ≡ []) × (t ≡ s)) (λ item. (take 1 s.listed ≡ item.0 ∷ []) × (t ≡ record { listed = take_out item.0 s.listed; next = s.next })) }
+    {
+        if self.len == 0 {
+            return None;
+        }
+        let front = NodeIndex(self.listed[0]);
+        take_out(&mut self.listed, &mut self.place, self.len, front);
+        self.len -= 1;
+        Some(front)
+    }
+
+    // The next list takes the list's place.
+    pub(crate) fn next_round(&mut self)
+        ensures turned { self.new ≡ record { listed = self.old.next; next = [] } }
+    {
+        let end = self.end;
+        copy_colors(&self.next[..end], &mut self.listed);
+        self.len = end;
+        self.end = 0;
     }
 }

@@ -1,39 +1,20 @@
 // The neighbours of a node: the far ends of its edges, in incidence order.
-ghost use Rattle.std.specs.Prelude.{false, ◌≡◌, ◌<◌};
+ghost use Rattle.std.specs.Prelude.{◌≡◌, ◌<◌};
 ghost use Rattle.greedy.specs.IndependentSet.{put_off_all};
-ghost use Rattle.independent_set.specs.Items.{neighbors_of, ItemsTabled};
-ghost use Rattle.independent_set.specs.Listing.{ListsHeld, lists_at};
+ghost use Rattle.items.specs.declared.Kind.TheVariants.{Nodes};
+ghost use Rattle.items.specs.Items.{neighbors_of};
 
-use crate::items::Items;
-use crate::list::{Counts, put_off};
-use edge_walk::{edges_at, far_end};
+use crate::list::Lists;
+use edge_walk::IncidenceTable;
 use graph::{EdgeIndex, NodeIndex};
 
 // The listed neighbours of a node are put off, in incidence order.
-pub(crate) fn put_off_far_ends(
-    items: Items,
-    ends: &[u16],
-    starts: &[u16],
-    entries: &[u16],
-    listed: &mut [u16],
-    place: &mut [u16],
-    next: &mut [u16],
-    counts: Counts,
-    node: NodeIndex,
-) -> Counts
-    requires edges_value { (items.edges ≡ false) × ItemsTabled items ends.now starts.now entries.now × (node.0 < items.count) }
-    requires lists_held { ListsHeld items.count listed.old place.old next.old counts.listed counts.next (lists_at listed.old next.old counts.listed counts.next) }
-    ensures held { let listed₀ = listed.old in let next₀ = next.old in let ends = ends.entry.now in
-        ListsHeld items.count listed.new place.new next.new result.listed result.next
-        (put_off_all (lists_at listed₀ next₀ counts.listed counts.next) (neighbors_of items ends node.0)) }
+pub(crate) fn put_off_far_ends(table: IncidenceTable, lists: &mut Lists, node: NodeIndex)
+    requires node_in_bounds { node.0 < table.nodes }
+    ensures put_off { let table = table.entry in lists.new ≡ put_off_all lists.old (neighbors_of Nodes table.nodes table.ends.now node.0) }
 {
-    let mut reached = counts;
-    let edges = edges_at(starts, entries, node);
-    let mut i = 0;
-    while i < edges.len() {
-        let far = far_end(ends, EdgeIndex(edges[i]), node);
-        reached = put_off(items.count, listed, place, next, reached, far);
-        i += 1;
+    for edge in table.edges_at(node) {
+        let far = table.far_end(EdgeIndex(*edge), node);
+        lists.put_off(far);
     }
-    reached
 }

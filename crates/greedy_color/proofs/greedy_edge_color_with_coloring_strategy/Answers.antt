@@ -11,4 +11,4 @@ pub returns-in-Saturation : goal.returns-in-Saturation
 returns-in-Saturation c = let all_parts = edges_by_strategy _ S.Saturation c.in-Saturation.is saturation_greedy _ _ _ _ _ _ c.color-in-Saturation.ensures.report c.color-in-Saturation.ensures.colors in record { report = all_parts.0; colors = all_parts.1.0; accepts = all_parts.1.1.0; precoloring = all_parts.1.1.1.0; proper = all_parts.1.1.1.1 }
 
 pub returns-in-IndependentSet : goal.returns-in-IndependentSet
-returns-in-IndependentSet c = let all_parts = edges_by_strategy _ S.IndependentSet c.in-IndependentSet.is independent_set_rule _ _ _ _ _ _ c.color_edges.ensures.report c.color_edges.ensures.colors in record { report = all_parts.0; colors = all_parts.1.0; accepts = all_parts.1.1.0; precoloring = all_parts.1.1.1.0; proper = all_parts.1.1.1.1 }
+returns-in-IndependentSet c = let all_parts = edges_by_strategy _ S.IndependentSet c.in-IndependentSet.is independent_set_rule _ _ _ _ _ _ c.color-in-IndependentSet.ensures.report c.color-in-IndependentSet.ensures.colors in record { report = all_parts.0; colors = all_parts.1.0; accepts = all_parts.1.1.0; precoloring = all_parts.1.1.1.0; proper = all_parts.1.1.1.1 }

@@ -1,17 +1,27 @@
 -- `color_checked` meets its contract: the rounds start from the presets and the items without one.
-use mathlib.Core.Path.{◌∙◌, refl, sym}
-use native.Mathlib.Omega.{arith}
+use Rattle.std.proofs.Common.{◌∙◌, sym, ap}
 use Rattle.lists.proofs.PartsLaws.{copied_same}
-use Rattle.independent_set.proofs.NeighborsLaws.{items_few}
-use Rattle.independent_set.proofs.ListingLaws.{listing_at}
-use Rattle.independent_set.proofs.RoundsLaws.{colors_answer}
+use Rattle.greedy.specs.IndependentSet.{Lists}
+use Rattle.independent_set.proofs.RoundsLaws.{colors_answer, uncolored_below}
 use Rattle.independent_set.proofs.color_checked.Goals as goal
 
-pub list_uncolored-len-requires : goal.list_uncolored-len-requires
-list_uncolored-len-requires c = (omega (arith, items_few _ _ c.requires.passed c.requires.count_value.0), refl, refl)
-
 pub color_rounds-requires : goal.color_rounds-requires
-color_rounds-requires c = let p = c.requires.passed in record { items_tabled = record { passed = p; table = c.incidence_front.ensures.made p (omega (arith, p.nodes)) (omega (arith, p.even, p.edges)); all = c.requires.count_value.0 }; listing = listing_at _ _ _ _ _ _ c.requires.count_value.1 c.list_uncolored-len.ensures.listing; presets_len = (c.requires.count_value.1, refl, c.copy_colors.auto.to ∙ c.requires.count_value.2) }
+color_rounds-requires c =
+    let same = c.new-items.ensures.same in
+    let graph = c.incidence_table-table.ensures.graph in
+    let count = sym (rw (same.0, same.1, graph.0, graph.1) at c.new-items.result.counted) in
+    let len = c.requires.presets_len in
+    record {
+      listed_below = uncolored_below _ _ _ (len.0 ∙ count) c.list_uncolored.ensures.listed;
+      none_put_off = ap (λ (s : Lists). s.next) c.list_uncolored.ensures.listed;
+      presets_len = (len.0 ∙ count, c.copy_colors.auto.to ∙ (len.1 ∙ count));
+    }
 
 pub returns : goal.returns
-returns c = record { colors = colors_answer _ _ _ _ _ _ _ _ c.requires.count_value.1 c.list_uncolored-len.ensures.listing (c.copy_colors.ensures.to ∙ copied_same _ _ (c.requires.count_value.2 ∙ sym c.requires.count_value.1)) c.color_rounds.ensures.colors }
+returns c =
+    let same = c.new-items.ensures.same in
+    let graph = c.incidence_table-table.ensures.graph in
+    let count = rw (same.0, same.1, graph.0, graph.1) at c.new-items.result.counted in
+    let len = c.requires.presets_len in
+    let rounds = rw (count, same.0, same.1, graph.0, graph.1) at c.color_rounds.ensures.colors in
+    record { colors = colors_answer _ _ _ _ _ _ len.0 c.list_uncolored.ensures.listed (c.copy_colors.ensures.to ∙ copied_same _ _ (len.1 ∙ sym len.0)) rounds }

@@ -1,19 +1,21 @@
-use Prim.Native.Nat.{◌-◌}
-use native.Mathlib.Omega.{arith}
-use Rattle.lists.proofs.MemberLaws.{mem_get_or}
-use Rattle.independent_set.proofs.ListingLaws.{held_at}
-use Rattle.independent_set.proofs.NeighborsLaws.{part_start_lem, part_done, part_more}
+use Rattle.std.proofs.Common.{◌∷◌, [], ◌∙◌, inl, refl}
+use Rattle.lists.proofs.MemberLaws.{mem_append_left, mem_append_right}
+use Rattle.independent_set.proofs.NeighborsLaws.{last_off, none_left}
 use Rattle.independent_set.proofs.edges.put_off_part.Goals as goal
 
-pub loop-i-init : goal.loop-i-init
-loop-i-init c = (omega arith, part_start_lem _ _ _ _ _ _ _ c.args.edges.now c.requires.lists_held)
+pub loop-edge-init : goal.loop-edge-init
+loop-edge-init c = rw (c.into_iter-edge-iterator.ensures.into_iter_gives, c.rev-edge-items.ensures.source) (record { in_bounds = rw c.iter.ensures.rest c.requires.in_bounds; left = rw c.iter.ensures.rest })
 
-pub put_off-reached-requires : goal.put_off-reached-requires
-put_off-reached-requires c = record { lists_held = held_at _ _ _ _ _ _ _ c.loop-i.invariant.1; item_lt_count = c.requires.by_index _ (rw c.node_of_edge-item.ensures.answer (mem_get_or c.args.edges.now (c.loop-i.i - 1) 0 (omega arith))) }
+pub put_off-requires : goal.put_off-requires
+put_off-requires c = let e = c.in-Some.ensures.steps in
+    rw c.node_of_edge.ensures.answer (c.loop-edge.invariant.in_bounds _ (rw e (mem_append_right _ c.next.new.self.iter.rest.now _ (inl refl))))
 
-pub loop-i-preserved : goal.loop-i-preserved
-loop-i-preserved c = let l = c.loop-i in
-    (omega arith, part_more _ _ _ _ _ _ _ _ _ c.loop-i-test.true l.invariant.0 l.invariant.1 _ c.node_of_edge-item.ensures.answer _ _ _ _ _ c.put_off-reached.ensures.held)
+pub loop-edge-preserved : goal.loop-edge-preserved
+loop-edge-preserved c = let e = c.in-Some.ensures.steps in
+    record {
+      in_bounds = λ j m. c.loop-edge.invariant.in_bounds j (rw e (mem_append_left j c.next.new.self.iter.rest.now (c.in-Some.edge.now ∷ []) m));
+      left = last_off _ _ _ _ _ e (rw c.node_of_edge.ensures.answer at c.put_off.ensures.put_off) ∙ c.loop-edge.invariant.left;
+    }
 
 pub returns : goal.returns
-returns c = record { held = part_done _ _ _ _ _ _ _ _ _ c.loop-i-test.false c.loop-i.invariant.1 }
+returns c = record { put_off = none_left _ _ _ c.in-None.ensures.steps.0 c.loop-edge.invariant.left }

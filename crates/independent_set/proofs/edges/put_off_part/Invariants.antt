@@ -1,14 +1,11 @@
--- `put_off_part` meets its contract. The invariant: the edges passed, from the back, are put off.
--- The measure: i, which each turn lowers by one.
-use Prim.Native.Nat.{◌≤◌}
-use mathlib.Core.List.{reverse}
-use lib.ListN.{length, drop}
+-- `put_off_part` meets its contract. The invariant: the edges that are left, last first, lead from the lists to the answer.
+use Rattle.std.proofs.Common.{◌≡◌, ℕ, ◌<◌, reverse}
+use Rattle.lists.specs.Member.{Mem}
 use Rattle.greedy.specs.IndependentSet.{put_off_all}
-use Rattle.independent_set.specs.Listing.{ListsHeld, lists_at}
 use Rattle.independent_set.proofs.edges.put_off_part.Given as goal
 
-abbrev pub invariant-loop-i : goal.invariant-loop-i
-invariant-loop-i l = (l.i ≤ length l.edges) × ListsHeld l.count l.listed l.place l.next l.reached.listed l.reached.next (put_off_all (lists_at l.initial.listed l.initial.next l.initial.reached.listed l.initial.reached.next) (reverse (drop l.i l.edges)))
-
-abbrev pub decreases-loop-i : goal.decreases-loop-i
-decreases-loop-i l = l.i
+abbrev pub invariant-loop-edge : goal.invariant-loop-edge
+invariant-loop-edge l = record {
+  in_bounds : (j : ℕ) → Mem j l.edge-iterator.iter.rest.now → j < 4096;
+  left : put_off_all l.lists (reverse l.edge-iterator.iter.rest.now) ≡ put_off_all l.initial.lists (reverse l.edges);
+}

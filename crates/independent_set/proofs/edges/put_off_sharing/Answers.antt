@@ -1,16 +1,18 @@
-use native.Mathlib.Omega.{arith}
-use Rattle.independent_set.proofs.ListingLaws.{held_at}
-use Rattle.independent_set.proofs.NeighborsLaws.{part_below, parts_all, parts_done, parts_more, parts_none}
+use Rattle.std.proofs.Common.{◌≡◌, arith}
+use Rattle.independent_set.proofs.NeighborsLaws.{part_below, parts_done, parts_more, parts_none}
 use Rattle.independent_set.proofs.edges.put_off_sharing.Goals as goal
 
 pub loop-turn-init : goal.loop-turn-init
-loop-turn-init c = (omega arith, parts_none _ _ _ _ _ _ _ _ _ _ c.requires.lists_held)
+loop-turn-init c = parts_none _ _ _ _
 
-pub put_off_part-reached-requires : goal.put_off_part-reached-requires
-put_off_part-reached-requires c = let known = c.requires.edges_value in record { by_index = part_below _ _ _ _ _ known.0 known.1 known.2 _ _ c.part_at-part.ensures.contents; lists_held = held_at _ _ _ _ _ _ _ c.loop-turn.invariant.1 }
+pub put_off_part-requires : goal.put_off_part-requires
+put_off_part-requires c = let t = c.args.table in
+    record { in_bounds = λ j m. omega (arith, t.passed.edges, part_below _ _ _ _ _ t.passed t.table c.requires.edge_in_bounds _ _ c.part_at-part.ensures.contents j m) }
 
 pub loop-turn-preserved : goal.loop-turn-preserved
-loop-turn-preserved c = (omega arith, parts_more _ _ _ _ _ _ _ _ _ _ _ _ c.part_at-part.ensures.contents c.loop-turn.invariant.1 _ _ _ _ _ c.put_off_part-reached.ensures.held)
+loop-turn-preserved c = parts_more _ _ _ _ _ _ _ _ c.part_at-part.ensures.contents c.loop-turn.invariant c.put_off_part.ensures.put_off
 
 pub returns : goal.returns
-returns c = let known = c.requires.edges_value in record { held = parts_done _ _ _ _ _ _ _ _ _ _ _ _ c.loop-turn.invariant.0 c.loop-turn-test.false (parts_all _ _ _ _ _ known.0 known.1 known.2) c.loop-turn.invariant.1 }
+returns c = let t = c.args.table in
+    let e : c.loop-turn.turn ≡ 4 = omega arith in
+    record { put_off = parts_done _ _ _ _ _ t.passed t.table c.requires.edge_in_bounds _ _ (rw e at c.loop-turn.invariant) }

@@ -1,38 +1,23 @@
-use native.Mathlib.Omega.{arith}
-use Rattle.independent_set.proofs.RoundsLaws.{front_below, front_inside, front_taken, turn_done, turn_less, turn_more, turn_start}
+use Rattle.std.proofs.Common.{arith}
+use Rattle.independent_set.proofs.RoundsLaws.{front_below, turn_done, turn_less, turn_more, turn_start}
 use Rattle.independent_set.proofs.rounds.color_listed.Goals as goal
 
-pub loop-reached-init : goal.loop-reached-init
-loop-reached-init c = turn_start _ _ _ _ _ _ _ _ _ c.requires.lists_held c.requires.colors_len
+pub loop-front-init : goal.loop-front-init
+loop-front-init c = turn_start _ _ _ _ _ c.requires.listed_below c.requires.colors_len
 
-pub bounds-listed-0 : goal.bounds-listed-0
-bounds-listed-0 c = omega (arith, c.loop-reached.invariant.held.first.size)
+pub bounds-colors-front : goal.bounds-colors-front
+bounds-colors-front c = let at = c.loop-front.invariant in omega (arith, at.size, front_below _ _ _ _ _ _ at _ _ c.in-Some.ensures.taken)
 
-pub overflow_cast-v : goal.overflow_cast-v
-overflow_cast-v c = omega (arith, front_below _ _ _ _ _ _ _ _ _ _ c.loop-reached.invariant c.loop-reached-test.true, c.loop-reached.invariant.held.first.few)
+pub put_off_neighbors-requires : goal.put_off_neighbors-requires
+put_off_neighbors-requires c = record { item_in_bounds = front_below _ _ _ _ _ _ c.loop-front.invariant _ _ c.in-Some.ensures.taken }
 
-pub offset_bounds-colors-v : goal.offset_bounds-colors-v
-offset_bounds-colors-v c = omega (arith, front_below _ _ _ _ _ _ _ _ _ _ c.loop-reached.invariant c.loop-reached-test.true, c.loop-reached.invariant.held.first.few)
+pub loop-front-preserved : goal.loop-front-preserved
+loop-front-preserved c = turn_more _ _ _ _ _ _ c.loop-front.invariant _ _ c.in-Some.ensures.taken _ c.put_off_neighbors.ensures.put_off
 
-pub bounds-colors-v : goal.bounds-colors-v
-bounds-colors-v c = omega (arith, front_below _ _ _ _ _ _ _ _ _ _ c.loop-reached.invariant c.loop-reached-test.true, c.loop-reached.invariant.size)
-
-pub take_out-requires : goal.take_out-requires
-take_out-requires c = front_inside _ _ _ _ _ _ _ _ _ _ c.loop-reached.invariant c.loop-reached-test.true
-
-pub put_off_neighbors-reached-requires : goal.put_off_neighbors-reached-requires
-put_off_neighbors-reached-requires c = let v = c.loop-reached.invariant in
-    let t = c.loop-reached-test.true in record { items_tabled = c.requires.items_tabled; lists_held = front_taken _ _ _ _ _ _ _ _ _ _ v t _ _ c.take_out.ensures.listed_and_place.0 c.take_out.ensures.listed_and_place.1; item_lt_count = front_below _ _ _ _ _ _ _ _ _ _ v t }
-
-pub loop-reached-smaller : goal.loop-reached-smaller
-loop-reached-smaller c = let v = c.loop-reached.invariant in
-    let t = c.loop-reached-test.true in
-    turn_less _ _ _ _ _ _ _ _ _ _ v t _ _ c.take_out.ensures.listed_and_place.0 c.take_out.ensures.listed_and_place.1 _ _ _ _ _ c.put_off_neighbors-reached.ensures.held
-
-pub loop-reached-preserved : goal.loop-reached-preserved
-loop-reached-preserved c = let v = c.loop-reached.invariant in
-    let t = c.loop-reached-test.true in
-    turn_more _ _ _ _ _ _ _ _ _ _ v t _ _ c.take_out.ensures.listed_and_place.0 c.take_out.ensures.listed_and_place.1 _ _ _ _ _ c.put_off_neighbors-reached.ensures.held
+pub loop-front-smaller : goal.loop-front-smaller
+loop-front-smaller c = turn_less _ _ _ _ _ _ c.loop-front.invariant _ _ c.in-Some.ensures.taken _ c.put_off_neighbors.ensures.put_off
 
 pub returns : goal.returns
-returns c = record { rounded = turn_done _ _ _ _ _ _ _ _ _ _ c.loop-reached.invariant c.loop-reached-test.false }
+returns c = let taken = c.in_default.ensures.taken in
+    let done = turn_done _ _ _ _ _ _ c.loop-front.invariant taken.0 in
+    record { round = rw taken.1 done; listed_below = rw taken.1 c.loop-front.invariant.below }

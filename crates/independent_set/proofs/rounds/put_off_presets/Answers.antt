@@ -1,20 +1,16 @@
-use native.Mathlib.Omega.{arith}
-use borrow.Author.Rules.{rules}
-use Rattle.independent_set.proofs.ListingLaws.{held_at}
-use Rattle.independent_set.proofs.RoundsLaws.{presets_done, presets_more, presets_none, presets_skip}
+use Rattle.std.proofs.Common.{◌≡◌, arith}
+use Rattle.independent_set.proofs.RoundsLaws.{presets_more, presets_none, presets_skip}
 use Rattle.independent_set.proofs.rounds.put_off_presets.Goals as goal
+use Rattle.independent_set.proofs.rounds.put_off_presets.Goals.{then-preset-color, else-preset-color}
 
-pub loop-v-init : goal.loop-v-init
-loop-v-init c = search (rules, presets_none)
+pub loop-item-init : goal.loop-item-init
+loop-item-init c = presets_none _ _ _ _
 
-pub put_off_neighbors-reached-requires : goal.put_off_neighbors-reached-requires
-put_off_neighbors-reached-requires c = record { items_tabled = c.requires.items_tabled; lists_held = held_at _ _ _ _ _ _ _ c.loop-v.invariant.1; item_lt_count = c.loop-v-test.true }
-
-pub loop-v-preserved-then-presets-item : goal.loop-v-preserved-then-presets-item
-loop-v-preserved-then-presets-item c = (omega arith, presets_more _ _ _ _ _ _ _ _ _ _ _ c.loop-v.invariant.1 c.requires.presets_len c.loop-v-test.true _ _ _ _ _ c.if-presets-item.true c.put_off_neighbors-reached.ensures.held)
-
-pub loop-v-preserved : goal.loop-v-preserved
-loop-v-preserved c = (omega arith, presets_skip _ _ _ _ _ _ _ _ _ _ _ c.loop-v.invariant.1 c.requires.presets_len c.loop-v-test.true c.if-presets-item.false)
+pub loop-item-preserved : goal.loop-item-preserved
+loop-item-preserved c = let l = c.loop-item in elim c.if-preset-color.branch [
+  | then-preset-color w ↦ rw w.lists-is (presets_more _ _ _ _ _ _ l.invariant c.loop-item-test.true _ w.if-preset-color.true w.put_off_neighbors.ensures.put_off)
+  | else-preset-color w ↦ rw w.lists-is (presets_skip _ _ _ _ _ _ l.invariant c.loop-item-test.true w.if-preset-color.false)
+]
 
 pub returns : goal.returns
-returns c = record { held = presets_done _ _ _ _ _ _ _ _ _ _ _ c.loop-v.invariant.0 c.loop-v-test.false c.loop-v.invariant.1 }
+returns c = let e : c.loop-item.item ≡ c.args.items.count = omega arith in record { put_off = rw (← e) c.loop-item.invariant }
