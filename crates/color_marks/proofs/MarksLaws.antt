@@ -15,7 +15,6 @@ use Rattle.lists.proofs.MemberLaws.{map_append, dec_mem, mem_get_or}
 use Rattle.items.specs.declared.Kind.{Kind}
 use Rattle.color_marks.specs.declared.Note.{Note}
 use Rattle.color_marks.specs.declared.Note.TheVariants.{NotAsked, Absent, Stands}
-use Rattle.items.specs.declared.table.Items.{Items}
 use Rattle.items.specs.Items.{first_node, second_node, across_of}
 use Rattle.color_marks.specs.Marks.{across_all, along, around, stored, has_color, stands_at, stands, mark_of, says_stands, Asked, used_marks}
 use Rattle.lists.specs.Member.{Mem, elem}
@@ -148,13 +147,13 @@ module _ (kind : Kind) (ends colors : List ℕ) (c w : ℕ) where
       unfolding has_color
       stands_other p n = past p (rw (ne_eqb (get_or colors v 0) c n) (and_false (ltb v (length colors)) false refl))
 
-module _ (items : Items) (colors : List ℕ) (c : ℕ) where
+module _ (kind : Kind) (ends starts entries colors : List ℕ) (c : ℕ) where
   -- ---- as the code asks
 
-  pub asked_none : Asked items colors c (replicate 512 NotAsked)
+  pub asked_none : Asked kind ends starts entries colors c (replicate 512 NotAsked)
   asked_none = record { answer = λ w h n. absurd (n (get_or-replicate 512 w NotAsked NotAsked (rw (length-replicate {A = Note} 512 NotAsked) at h))) }
 
-  asked_more : (at : List Note) (w : ℕ) (x : Note) → Asked items colors c at → w < length at → says_stands x ≡ stands items colors c w → Asked items colors c (set at w x)
+  asked_more : (at : List Note) (w : ℕ) (x : Note) → Asked kind ends starts entries colors c at → w < length at → says_stands x ≡ stands kind ends starts entries colors c w → Asked kind ends starts entries colors c (set at w x)
   asked_more at w x p h e = record {
     answer = λ u b n. elim (dec_eq u w) [
       | inl z ↦ rw (z, get_or-set_same at w x NotAsked h) e
@@ -162,46 +161,46 @@ module _ (items : Items) (colors : List ℕ) (c : ℕ) where
     ];
   }
 
-  pub asked_outside : (at : List Note) (w : ℕ) → Asked items colors c at → (r : Bool) → r ≡ stands_at items.kind items.table.ends.now colors c w (stretch items.table.starts.now items.table.entries.now w) → (r ≡ stands items colors c w) × Asked items colors c at
+  pub asked_outside : (at : List Note) (w : ℕ) → Asked kind ends starts entries colors c at → (r : Bool) → r ≡ stands_at kind ends colors c w (stretch starts entries w) → (r ≡ stands kind ends starts entries colors c w) × Asked kind ends starts entries colors c at
   unfolding stands
   asked_outside at w p r q = (q, p)
 
-  pub asked_before : (at : List Note) (w : ℕ) (x : Note) → Asked items colors c at → w < length at → get_or at w NotAsked ≡ x → (x ≡ NotAsked → ⊥) → (says_stands x ≡ stands items colors c w) × Asked items colors c at
+  pub asked_before : (at : List Note) (w : ℕ) (x : Note) → Asked kind ends starts entries colors c at → w < length at → get_or at w NotAsked ≡ x → (x ≡ NotAsked → ⊥) → (says_stands x ≡ stands kind ends starts entries colors c w) × Asked kind ends starts entries colors c at
   asked_before at w x p h e n = (ap says_stands (sym e) ∙ p.answer w h (λ z. n (sym e ∙ z)), p)
 
-  module _ (at : List Note) (w : ℕ) (p : Asked items colors c at) (h : w < length at) (r : Bool) (q : r ≡ stands_at items.kind items.table.ends.now colors c w (stretch items.table.starts.now items.table.entries.now w)) where
-    pub asked_yes : r ≡ true → (true ≡ stands items colors c w) × Asked items colors c (set at w Stands)
+  module _ (at : List Note) (w : ℕ) (p : Asked kind ends starts entries colors c at) (h : w < length at) (r : Bool) (q : r ≡ stands_at kind ends colors c w (stretch starts entries w)) where
+    pub asked_yes : r ≡ true → (true ≡ stands kind ends starts entries colors c w) × Asked kind ends starts entries colors c (set at w Stands)
     unfolding stands
     asked_yes t = (sym t ∙ q, asked_more at w Stands p h (sym t ∙ q))
 
-    pub asked_no : r ≡ false → (false ≡ stands items colors c w) × Asked items colors c (set at w Absent)
+    pub asked_no : r ≡ false → (false ≡ stands kind ends starts entries colors c w) × Asked kind ends starts entries colors c (set at w Absent)
     unfolding stands
     asked_no t = (sym t ∙ q, asked_more at w Absent p h (sym t ∙ q))
 
   module _ (v : ℕ) where
-    pub mark_outside : length colors ≤ v → 0 ≡ mark_of items colors c v
+    pub mark_outside : length colors ≤ v → 0 ≡ mark_of kind ends starts entries colors c v
     unfolding mark_of has_color
     mark_outside o = rw (le-ltb v (length colors) o)
 
-    pub mark_colored : (get_or colors v 0 ≡ no_color → ⊥) → 0 ≡ mark_of items colors c v
+    pub mark_colored : (get_or colors v 0 ≡ no_color → ⊥) → 0 ≡ mark_of kind ends starts entries colors c v
     unfolding mark_of has_color
     mark_colored n = rw (ne_eqb (get_or colors v 0) no_color n, and_false (ltb v (length colors)))
 
     module _ (inside : v < length colors) (bare : get_or colors v 0 ≡ no_color) where
       -- The mark of an item without a colour.
-      pub bare_mark : mark_of items colors c v ≡ cond (stands items colors c (first_node items.kind items.table.ends.now v) || stands items colors c (second_node items.kind items.table.ends.now v)) 1 0
+      pub bare_mark : mark_of kind ends starts entries colors c v ≡ cond (stands kind ends starts entries colors c (first_node kind ends v) || stands kind ends starts entries colors c (second_node kind ends v)) 1 0
       unfolding mark_of has_color
       bare_mark = rw (lt-ltb v (length colors) inside, eq-eqb (get_or colors v 0) no_color bare)
 
-      module _ (a : ℕ) (p : a ≡ first_node items.kind items.table.ends.now v) (r : Bool) (x : r ≡ stands items colors c a) where
-        pub mark_first : r ≡ true → 1 ≡ mark_of items colors c v
+      module _ (a : ℕ) (p : a ≡ first_node kind ends v) (r : Bool) (x : r ≡ stands kind ends starts entries colors c a) where
+        pub mark_first : r ≡ true → 1 ≡ mark_of kind ends starts entries colors c v
         mark_first t = sym (bare_mark ∙ rw (← p, ← x, t))
 
-        module _ (b : ℕ) (q : b ≡ second_node items.kind items.table.ends.now v) (s : Bool) (y : s ≡ stands items colors c b) (f : r ≡ false) where
-          pub mark_second : s ≡ true → 1 ≡ mark_of items colors c v
+        module _ (b : ℕ) (q : b ≡ second_node kind ends v) (s : Bool) (y : s ≡ stands kind ends starts entries colors c b) (f : r ≡ false) where
+          pub mark_second : s ≡ true → 1 ≡ mark_of kind ends starts entries colors c v
           mark_second t = sym (bare_mark ∙ rw (← p, ← q, ← x, ← y, f, t))
 
-          pub mark_neither : s ≡ false → 0 ≡ mark_of items colors c v
+          pub mark_neither : s ≡ false → 0 ≡ mark_of kind ends starts entries colors c v
           mark_neither t = sym (bare_mark ∙ rw (← p, ← q, ← x, ← y, f, t))
 
 -- The items around item v get their marks, those along the edges at its first node and then at its second.
@@ -217,18 +216,18 @@ module _ (kind : Kind) (ends starts entries : List ℕ) (v a b : ℕ) (p : a ≡
 
 -- ---- the marks of a colour that is used
 
-module _ (items : Items) (colors : List ℕ) (c v : ℕ) (marks : List ℕ) where
-  pub used_yes : elem c colors ≡ true → (used_marks items colors c v marks) ≡ stored (mark_of items colors c) (around items.kind items.table.ends.now items.table.starts.now items.table.entries.now v) marks
+module _ (kind : Kind) (ends starts entries colors : List ℕ) (c v : ℕ) (marks : List ℕ) where
+  pub used_yes : elem c colors ≡ true → (used_marks kind ends starts entries colors c v marks) ≡ stored (mark_of kind ends starts entries colors c) (around kind ends starts entries v) marks
   unfolding used_marks
   used_yes t = rw t
 
-  pub used_no : elem c colors ≡ false → (used_marks items colors c v marks) ≡ marks
+  pub used_no : elem c colors ≡ false → (used_marks kind ends starts entries colors c v marks) ≡ marks
   unfolding used_marks
   used_no f = rw f
 
   -- As the code asks.
-  pub used_marked : (after : List ℕ) → after ≡ stored (mark_of items colors c) (around items.kind items.table.ends.now items.table.starts.now items.table.entries.now v) marks → (r : Bool) → r ≡ elem c colors → r ≡ true → after ≡ used_marks items colors c v marks
+  pub used_marked : (after : List ℕ) → after ≡ stored (mark_of kind ends starts entries colors c) (around kind ends starts entries v) marks → (r : Bool) → r ≡ elem c colors → r ≡ true → after ≡ used_marks kind ends starts entries colors c v marks
   used_marked after e r p t = e ∙ sym (used_yes (sym p ∙ t))
 
-  pub unused_kept : (r : Bool) → r ≡ elem c colors → r ≡ false → marks ≡ used_marks items colors c v marks
+  pub unused_kept : (r : Bool) → r ≡ elem c colors → r ≡ false → marks ≡ used_marks kind ends starts entries colors c v marks
   unused_kept r p f = sym (used_no (sym p ∙ f))

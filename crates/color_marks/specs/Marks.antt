@@ -2,7 +2,6 @@
 use Rattle.std.specs.Prelude.{ℕ, ◌<◌, List, ◌++◌, map, [], ◌∷◌, cond, Bool, true, false, ◌&&◌, ◌||◌, eqb, ltb, set, length, get_or, ◌≡◌, ◌≢◌}
 use Rattle.graph.specs.Stretch.{stretch}
 use Rattle.items.specs.declared.Kind.{Kind}
-use Rattle.items.specs.declared.table.Items.{Items}
 use Rattle.items.specs.Items.{first_node, second_node, across_of}
 use Rattle.graph.specs.Color.{no_color}
 use Rattle.color_marks.specs.declared.Note.{Note}
@@ -52,14 +51,14 @@ says_stands Stands = true
 
 -- ---- The marks of the items to which a colour is not new: it stands at one of their nodes.
 
-module _ (items : Items) (colors : List ℕ) (c : ℕ) where
+module _ (kind : Kind) (ends starts entries colors : List ℕ) (c : ℕ) where
   -- Whether the colour stands at node w.
   unfoldable pub stands : ℕ → Bool
-  stands w = stands_at items.kind items.table.ends.now colors c w (stretch items.table.starts.now items.table.entries.now w)
+  stands w = stands_at kind ends colors c w (stretch starts entries w)
 
   -- The mark of item v: 1 where it has no colour and the colour stands at its first node or its second.
   unfoldable pub mark_of : ℕ → ℕ
-  mark_of v = cond (has_color colors no_color v) (cond (stands (first_node items.kind items.table.ends.now v) || stands (second_node items.kind items.table.ends.now v)) 1 0) 0
+  mark_of v = cond (has_color colors no_color v) (cond (stands (first_node kind ends v) || stands (second_node kind ends v)) 1 0) 0
 
   -- What is noted of each node: nothing, or whether the colour stands there.
   pub record Asked (at : List Note) : Type 0 where
@@ -67,7 +66,7 @@ module _ (items : Items) (colors : List ℕ) (c : ℕ) where
 
 -- ---- The marks are set if some item has the colour.
 
-module _ (items : Items) (colors : List ℕ) (c v : ℕ) (marks : List ℕ) where
+module _ (kind : Kind) (ends starts entries colors : List ℕ) (c v : ℕ) (marks : List ℕ) where
   -- The items around item v get their marks if some item has the colour; one that none has is new to all, and the marks stay.
   unfoldable pub used_marks : List ℕ
-  used_marks = cond (elem c colors) (stored (mark_of items colors c) (around items.kind items.table.ends.now items.table.starts.now items.table.entries.now v) marks) marks
+  used_marks = cond (elem c colors) (stored (mark_of kind ends starts entries colors c) (around kind ends starts entries v) marks) marks

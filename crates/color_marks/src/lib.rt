@@ -7,8 +7,9 @@ ghost use Rattle.lists.specs.Member.{elem};
 ghost use Rattle.graph.specs.Stretch.{stretch};
 ghost use Rattle.color_marks.specs.Marks.{stands_at, across_all, around, stored, stands, mark_of, Asked, used_marks};
 
+use edge_walk::edges_at;
 use graph::{Color, EdgeIndex, Graph, NodeIndex};
-use items::Items;
+use items::{Kind, across, first_node, second_node};
 
 // What is noted of a node in a turn: that it was not asked yet, or whether the colour stands there.
 #[derive(Clone, Copy)]
@@ -20,13 +21,21 @@ enum Note {
 
 // Whether an edge at the node leads to an item that has the colour. In each of its two groups a node's edges stand newest first, and
 // among equals the lowest item is coloured first: so the colour is mostly found sooner from the back.
-fn stands_at(items: Items<'_>, colors: &[u16], node: NodeIndex, color: Color) -> bool
-    ensures answer { let items = items.entry in let colors = colors.entry.now in
-        result ≡ stands_at items.kind items.table.ends.now colors color.0 node.0 (stretch items.table.starts.now items.table.entries.now node.0) }
+fn stands_at(
+    kind: Kind,
+    ends: &[u16],
+    starts: &[u16],
+    entries: &[u16],
+    colors: &[u16],
+    node: NodeIndex,
+    color: Color,
+) -> bool
+    ensures answer { let ends = ends.entry.now in let starts = starts.entry.now in let entries = entries.entry.now in let colors = colors.entry.now in
+        result ≡ stands_at kind ends colors color.0 node.0 (stretch starts entries node.0) }
 {
-    let edges = items.table.edges_at(node);
+    let edges = edges_at(starts, entries, node);
     for i in (0..edges.len()).rev() {
-        let v = items.across(EdgeIndex(edges[i]), node).0 as usize;
+        let v = across(kind, ends, EdgeIndex(edges[i]), node).0 as usize;
         if v < colors.len() {
             if colors[v] == color.0 {
                 return true;
@@ -37,21 +46,30 @@ fn stands_at(items: Items<'_>, colors: &[u16], node: NodeIndex, color: Color) ->
 }
 
 // Whether the colour stands at the node, and a note of the answer.
-fn ask(items: Items<'_>, colors: &[u16], color: Color, at: &mut [Note], node: NodeIndex) -> bool
-    requires { Asked items colors.now color.0 at.old }
-    ensures answer { let items = items.entry in let colors = colors.entry.now in
-        (result ≡ stands items colors color.0 node.0) × Asked items colors color.0 at.new }
+fn ask(
+    kind: Kind,
+    ends: &[u16],
+    starts: &[u16],
+    entries: &[u16],
+    colors: &[u16],
+    color: Color,
+    at: &mut [Note],
+    node: NodeIndex,
+) -> bool
+    requires { Asked kind ends.now starts.now entries.now colors.now color.0 at.old }
+    ensures answer { let ends = ends.entry.now in let starts = starts.entry.now in let entries = entries.entry.now in let colors = colors.entry.now in
+        (result ≡ stands kind ends starts entries colors color.0 node.0) × Asked kind ends starts entries colors color.0 at.new }
 {
     let w = node.0 as usize;
     if at.len() <= w {
-        return stands_at(items, colors, node, color);
+        return stands_at(kind, ends, starts, entries, colors, node, color);
     }
     match at[w] {
         Note::Stands => return true,
         Note::Absent => return false,
         Note::NotAsked => {}
     }
-    if stands_at(items, colors, node, color) {
+    if stands_at(kind, ends, starts, entries, colors, node, color) {
         at[w] = Note::Stands;
         return true;
     }
@@ -60,10 +78,19 @@ fn ask(items: Items<'_>, colors: &[u16], color: Color, at: &mut [Note], node: No
 }
 
 // The mark of an item: 1 if it has no colour and the colour stands at one of its nodes.
-fn item_mark(items: Items<'_>, colors: &[u16], color: Color, at: &mut [Note], item: NodeIndex) -> u8
-    requires { Asked items colors.now color.0 at.old }
-    ensures answer { let items = items.entry in let colors = colors.entry.now in
-        (result ≡ mark_of items colors color.0 item.0) × Asked items colors color.0 at.new }
+fn item_mark(
+    kind: Kind,
+    ends: &[u16],
+    starts: &[u16],
+    entries: &[u16],
+    colors: &[u16],
+    color: Color,
+    at: &mut [Note],
+    item: NodeIndex,
+) -> u8
+    requires { Asked kind ends.now starts.now entries.now colors.now color.0 at.old }
+    ensures answer { let ends = ends.entry.now in let starts = starts.entry.now in let entries = entries.entry.now in let colors = colors.entry.now in
+        (result ≡ mark_of kind ends starts entries colors color.0 item.0) × Asked kind ends starts entries colors color.0 at.new }
 {
     let v = item.0 as usize;
     if colors.len() <= v {
@@ -72,12 +99,12 @@ fn item_mark(items: Items<'_>, colors: &[u16], color: Color, at: &mut [Note], it
     if colors[v] != Color::NONE {
         return 0;
     }
-    let first = items.first_node(item);
-    if ask(items, colors, color, at, first) {
+    let first = first_node(kind, ends, item);
+    if ask(kind, ends, starts, entries, colors, color, at, first) {
         return 1;
     }
-    let second = items.second_node(item);
-    if ask(items, colors, color, at, second) {
+    let second = second_node(kind, ends, item);
+    if ask(kind, ends, starts, entries, colors, color, at, second) {
         return 1;
     }
     0
@@ -85,7 +112,10 @@ fn item_mark(items: Items<'_>, colors: &[u16], color: Color, at: &mut [Note], it
 
 // The items to which these edges of the node lead get their marks.
 fn mark_along(
-    items: Items<'_>,
+    kind: Kind,
+    ends: &[u16],
+    starts: &[u16],
+    entries: &[u16],
     edges: &[u16],
     colors: &[u16],
     color: Color,
@@ -93,15 +123,15 @@ fn mark_along(
     marks: &mut [u8],
     node: NodeIndex,
 )
-    requires { Asked items colors.now color.0 at.old }
-    ensures marks { let items = items.entry in let colors = colors.entry.now in let edges = edges.entry.now in let marks₀ = marks.old in
-        marks.new ≡ stored (mark_of items colors color.0) (across_all items.kind items.table.ends.now node.0 edges) marks₀ }
-    ensures asked { let items = items.entry in let colors = colors.entry.now in
-        Asked items colors color.0 at.new }
+    requires { Asked kind ends.now starts.now entries.now colors.now color.0 at.old }
+    ensures marks { let ends = ends.entry.now in let starts = starts.entry.now in let entries = entries.entry.now in let colors = colors.entry.now in let edges = edges.entry.now in let marks₀ = marks.old in
+        marks.new ≡ stored (mark_of kind ends starts entries colors color.0) (across_all kind ends node.0 edges) marks₀ }
+    ensures asked { let ends = ends.entry.now in let starts = starts.entry.now in let entries = entries.entry.now in let colors = colors.entry.now in
+        Asked kind ends starts entries colors color.0 at.new }
 {
     for edge in edges {
-        let item = items.across(EdgeIndex(*edge), node);
-        let mark = item_mark(items, colors, color, at, item);
+        let item = across(kind, ends, EdgeIndex(*edge), node);
+        let mark = item_mark(kind, ends, starts, entries, colors, color, at, item);
         let v = item.0 as usize;
         if v < marks.len() {
             marks[v] = mark;
@@ -110,27 +140,49 @@ fn mark_along(
 }
 
 // The items around the item get their marks, each where it has a place: 1 to those without a colour that have this one on a neighbour.
-fn mark_known(items: Items<'_>, colors: &[u16], color: Color, marks: &mut [u8], item: NodeIndex)
-    ensures marks { let items = items.entry in let colors = colors.entry.now in let marks₀ = marks.old in
-        marks.new ≡ stored (mark_of items colors color.0) (around items.kind items.table.ends.now items.table.starts.now items.table.entries.now item.0) marks₀ }
+fn mark_known(
+    kind: Kind,
+    ends: &[u16],
+    starts: &[u16],
+    entries: &[u16],
+    colors: &[u16],
+    color: Color,
+    marks: &mut [u8],
+    item: NodeIndex,
+)
+    ensures marks { let ends = ends.entry.now in let starts = starts.entry.now in let entries = entries.entry.now in let colors = colors.entry.now in let marks₀ = marks.old in
+        marks.new ≡ stored (mark_of kind ends starts entries colors color.0) (around kind ends starts entries item.0) marks₀ }
 {
     let mut at = [Note::NotAsked; Graph::MAX_NODES];
-    let first = items.first_node(item);
-    let second = items.second_node(item);
-    let edges = items.table.edges_at(first);
-    mark_along(items, edges, colors, color, &mut at, marks, first);
+    let first = first_node(kind, ends, item);
+    let second = second_node(kind, ends, item);
+    let edges = edges_at(starts, entries, first);
+    mark_along(
+        kind, ends, starts, entries, edges, colors, color, &mut at, marks, first,
+    );
     if first != second {
-        let others = items.table.edges_at(second);
-        mark_along(items, others, colors, color, &mut at, marks, second);
+        let others = edges_at(starts, entries, second);
+        mark_along(
+            kind, ends, starts, entries, others, colors, color, &mut at, marks, second,
+        );
     }
 }
 
 // The same if an item has the colour. One that none has is new to all, so no mark is set.
-pub fn mark_used(items: Items<'_>, colors: &[u16], color: Color, marks: &mut [u8], item: NodeIndex)
-    ensures marks { let items = items.entry in let colors = colors.entry.now in let marks₀ = marks.old in
-        marks.new ≡ used_marks items colors color.0 item.0 marks₀ }
+pub fn mark_used(
+    kind: Kind,
+    ends: &[u16],
+    starts: &[u16],
+    entries: &[u16],
+    colors: &[u16],
+    color: Color,
+    marks: &mut [u8],
+    item: NodeIndex,
+)
+    ensures marks { let ends = ends.entry.now in let starts = starts.entry.now in let entries = entries.entry.now in let colors = colors.entry.now in let marks₀ = marks.old in
+        marks.new ≡ used_marks kind ends starts entries colors color.0 item.0 marks₀ }
 {
     if colors.contains(&color.0) {
-        mark_known(items, colors, color, marks, item);
+        mark_known(kind, ends, starts, entries, colors, color, marks, item);
     }
 }

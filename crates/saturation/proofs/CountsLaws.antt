@@ -133,14 +133,14 @@ module _ (items : Items) (colors : List ℕ) (c : ℕ) (size : length colors ≡
   module _ (u : ℕ) (inside : u < length colors) (bare : color_of colors u ≡ no_color) where
     -- Whether the colour stands at a node.
     abbrev f : ℕ → Bool
-    f = stands items colors c
+    f = stands items.kind items.table.ends.now items.table.starts.now items.table.entries.now colors c
 
     -- Its mark.
     abbrev mark : ℕ
-    mark = mark_of items colors c u
+    mark = mark_of items.kind items.table.ends.now items.table.starts.now items.table.entries.now colors c u
 
     mark_is : mark ≡ cond (f (first_node items.kind items.table.ends.now u) || f (second_node items.kind items.table.ends.now u)) 1 0
-    mark_is = bare_mark items colors c u inside (color_read colors u 0 inside ∙ bare)
+    mark_is = bare_mark items.kind items.table.ends.now items.table.starts.now items.table.entries.now colors c u inside (color_read colors u 0 inside ∙ bare)
 
     mark_stands : mark ≢ 0 → (w : ℕ) × NodeOf items.kind items.table.ends.now u w × (f w ≡ true)
     mark_stands n =
@@ -153,7 +153,7 @@ module _ (items : Items) (colors : List ℕ) (c : ℕ) (size : length colors ≡
     stands_mark w (inr p) t z = let e = sym mark_is ∙ z in omega (arith, rw (p, true_or (f (first_node items.kind items.table.ends.now u)) (f w) t) at e)
 
   -- The colour stands at a node of item u, which has none: a neighbour of u has it; and the other way round.
-  stands_among : (u w : ℕ) → u < length colors → color_of colors u ≡ no_color → NodeOf items.kind items.table.ends.now u w → stands items colors c w ≡ true → Mem c (colors_among colors (neighbors_in items u))
+  stands_among : (u w : ℕ) → u < length colors → color_of colors u ≡ no_color → NodeOf items.kind items.table.ends.now u w → stands items.kind items.table.ends.now items.table.starts.now items.table.entries.now colors c w ≡ true → Mem c (colors_among colors (neighbors_in items u))
   unfolding stands
   stands_among u w h bare of_item t =
       let r = stands_item items.kind items.table.ends.now colors c w (stretch items.table.starts.now items.table.entries.now w) t in
@@ -164,7 +164,7 @@ module _ (items : Items) (colors : List ℕ) (c : ℕ) (size : length colors ≡
       (leading_neighbor items.kind items.table.nodes items.table.ends.now (length colors) sized u x h other (record { edge = r.0; node = w; inside = e.0; of_item = of_item; at = e.1; to = refl }))
       r.3 real
 
-  among_stands : (u : ℕ) → u < length colors → Mem c (colors_among colors (neighbors_in items u)) → (w : ℕ) × NodeOf items.kind items.table.ends.now u w × (stands items colors c w ≡ true)
+  among_stands : (u : ℕ) → u < length colors → Mem c (colors_among colors (neighbors_in items u)) → (w : ℕ) × NodeOf items.kind items.table.ends.now u w × (stands items.kind items.table.ends.now items.table.starts.now items.table.entries.now colors c w ≡ true)
   unfolding stands
   among_stands u h p =
       let r = among_color colors (neighbors_in items u) c p in
@@ -178,20 +178,20 @@ module _ (items : Items) (colors : List ℕ) (c : ℕ) (size : length colors ≡
             (ap (color_of colors) l.to ∙ r.2),
       )
 
-  pub known : (us marks₀ marks : List ℕ) → 4096 ≤ length marks₀ → marks ≡ stored (mark_of items colors c) us marks₀ → Known us (neighbors_in items) colors c marks
+  pub known : (us marks₀ marks : List ℕ) → 4096 ≤ length marks₀ → marks ≡ stored (mark_of items.kind items.table.ends.now items.table.starts.now items.table.entries.now colors c) us marks₀ → Known us (neighbors_in items) colors c marks
   known us marks₀ marks room stores =
-      let mark-here : (u : ℕ) → Mem u us → u < length colors → get_or marks u 0 ≡ mark_of items colors c u = λ u i h.
-      ap (λ (l : List ℕ). get_or l u 0) stores ∙ stored_here (mark_of items colors c) us marks₀ u i (omega (arith, items_few items.kind items.table.nodes items.table.ends.now (length colors) sized)) in
+      let mark-here : (u : ℕ) → Mem u us → u < length colors → get_or marks u 0 ≡ mark_of items.kind items.table.ends.now items.table.starts.now items.table.entries.now colors c u = λ u i h.
+      ap (λ (l : List ℕ). get_or l u 0) stores ∙ stored_here (mark_of items.kind items.table.ends.now items.table.starts.now items.table.entries.now colors c) us marks₀ u i (omega (arith, items_few items.kind items.table.nodes items.table.ends.now (length colors) sized)) in
       record {
         old = λ u i h bare n. let r = mark_stands u h bare (rw (mark-here u i h) at n) in stands_among u r.0 h bare r.1 r.2;
         marked = λ u i h bare p. let r = among_stands u h p in rw (mark-here u i h) (stands_mark u h bare r.0 r.1 r.2);
       }
 
   -- The marks where those are set only if some item has the colour: none has a colour that no item has.
-  pub used_known : (v : ℕ) (marks₀ marks : List ℕ) → ((u : ℕ) → get_or marks₀ u 0 ≡ 0) → 4096 ≤ length marks₀ → marks ≡ used_marks items colors c v marks₀
+  pub used_known : (v : ℕ) (marks₀ marks : List ℕ) → ((u : ℕ) → get_or marks₀ u 0 ≡ 0) → 4096 ≤ length marks₀ → marks ≡ used_marks items.kind items.table.ends.now items.table.starts.now items.table.entries.now colors c v marks₀
       → Known (around items.kind items.table.ends.now items.table.starts.now items.table.entries.now v) (neighbors_in items) colors c marks
-  used_known v marks₀ marks zeros room set = by-test (elem c colors) (λ t. known (around items.kind items.table.ends.now items.table.starts.now items.table.entries.now v) marks₀ marks room (set ∙ used_yes items colors c v marks₀ t)) (λ t. record {
-    old = λ u i h bare n. absurd (n (ap (λ (l : List ℕ). get_or l u 0) (set ∙ used_no items colors c v marks₀ t) ∙ zeros u));
+  used_known v marks₀ marks zeros room set = by-test (elem c colors) (λ t. known (around items.kind items.table.ends.now items.table.starts.now items.table.entries.now v) marks₀ marks room (set ∙ used_yes items.kind items.table.ends.now items.table.starts.now items.table.entries.now colors c v marks₀ t)) (λ t. record {
+    old = λ u i h bare n. absurd (n (ap (λ (l : List ℕ). get_or l u 0) (set ∙ used_no items.kind items.table.ends.now items.table.starts.now items.table.entries.now colors c v marks₀ t) ∙ zeros u));
     marked = λ u i h bare p. let r = among_color colors (neighbors_in items u) c p in absurd (elem_false c colors t (color_member r.0 r.2));
   })
     where

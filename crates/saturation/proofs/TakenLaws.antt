@@ -173,7 +173,7 @@ module _ (items : Items) (colors s₀ w₀ : List ℕ) (v c : ℕ) (ready : Coun
   -- The same where v waits for no neighbour: only its own counts are cleared.
   pub take_idle : get_or w₀ v 0 ≡ 0 → CountsReady items (set colors v c) (set s₀ v 0) w₀
   take_idle z =
-      let m = stored (mark_of items colors c) us (replicate 4096 0) in
+      let m = stored (mark_of items.kind items.table.ends.now items.table.starts.now items.table.entries.now colors c) us (replicate 4096 0) in
       let noted = idle_noted (neighbors_in items) (length colors) hood colors s₀ w₀ us v c refl ready.counted inside bare real (λ u d. around_times items.kind items.table.nodes items.table.ends.now items.table.starts.now items.table.entries.now (length colors) tabled v u inside d) z m in
       let marks = known items colors c ready.size real us (replicate 4096 0) m (omega (arith, length-replicate {A = ℕ} 4096 0)) refl in
       subst (CountsReady items (set colors v c) (set s₀ v 0)) (ap (set w₀ v) (sym z) ∙ set-get_or w₀ v 0) (take_ready m s₀ w₀ m marks noted refl refl)

@@ -118,7 +118,17 @@ fn note_color(
         CountsReady items colors.new saturations.new waiting.new }
 {
     let mut marks = [0u8; Graph::MAX_EDGES];
-    mark_used(items, colors, color, &mut marks, item);
+    let table = items.table;
+    mark_used(
+        items.kind,
+        table.ends,
+        table.starts,
+        table.entries,
+        colors,
+        color,
+        &mut marks,
+        item,
+    );
     let v = item.0 as usize;
     colors[v] = color.0;
     note_neighbors(items, colors, saturations, waiting, &mut marks, item);

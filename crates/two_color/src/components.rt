@@ -32,6 +32,7 @@ fn root_of(up: &mut [u16], flips: &mut [bool], node: NodeIndex) -> Root
 {
     let mut x = node.0 as usize;
     let mut odd = false;
+    // No iterator climbs a tree that is changed on the way.
     loop {
         let next = up[x] as usize;
         let above = up[next];

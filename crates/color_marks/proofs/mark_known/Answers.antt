@@ -4,7 +4,7 @@ use Rattle.color_marks.proofs.MarksLaws.{asked_none, around_stored, both_stored}
 use Rattle.color_marks.proofs.mark_known.Goals as goal
 
 pub mark_along-requires : goal.mark_along-requires
-mark_along-requires c = asked_none _ _ _
+mark_along-requires c = asked_none _ _ _ _ _ _
 
 pub mark_along-requires-then-ne : goal.mark_along-requires-then-ne
 mark_along-requires-then-ne c = c.mark_along.ensures.asked

@@ -5,7 +5,7 @@ use Rattle.color_marks.proofs.MarksLaws.{used_marked, unused_kept}
 use Rattle.color_marks.proofs.mark_used.Goals as goal
 
 pub returns-then-contains : goal.returns-then-contains
-returns-then-contains c = record { marks = used_marked _ _ _ _ _ _ c.mark_known.ensures.marks _ (c.contains.ensures.value ∙ any_elem _ _) c.if-contains.true }
+returns-then-contains c = record { marks = used_marked _ _ _ _ _ _ _ _ _ c.mark_known.ensures.marks _ (c.contains.ensures.value ∙ any_elem _ _) c.if-contains.true }
 
 pub returns-else-contains : goal.returns-else-contains
-returns-else-contains c = record { marks = unused_kept _ _ _ _ _ _ (c.contains.ensures.value ∙ any_elem _ _) c.if-contains.false }
+returns-else-contains c = record { marks = unused_kept _ _ _ _ _ _ _ _ _ (c.contains.ensures.value ∙ any_elem _ _) c.if-contains.false }

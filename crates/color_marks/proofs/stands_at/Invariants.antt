@@ -7,4 +7,4 @@ use Rattle.color_marks.specs.Marks.{stands_at}
 use Rattle.color_marks.proofs.stands_at.Given as goal
 
 abbrev pub invariant-loop-i : goal.invariant-loop-i
-invariant-loop-i l = stands_at l.items.kind l.items.table.ends.now l.colors l.color.0 l.node.0 (drop l.i l.edges) ≡ false
+invariant-loop-i l = stands_at l.kind l.ends l.colors l.color.0 l.node.0 (drop l.i l.edges) ≡ false
