@@ -4,13 +4,12 @@ use Prim.Native.Nat.{ℕ, zero, suc, ◌+◌, ◌≤◌, ◌<◌}
 use mathlib.Core.Path.{◌≡◌, refl, sym, ap, ◌∙◌, subst}
 use mathlib.Core.Logic.{inl, inr, ◌≢◌}
 use mathlib.Core.List.{List, [], ◌∷◌}
-use mathlib.Core.Bool.{Bool, true, false, true≢false, false≢true}
+use mathlib.Core.Bool.{Bool, true, false}
 use native.Mathlib.Omega.{arith}
 use native.Mathlib.Nat.{not-suc-le-zero}
 use native.Mathlib.Decide.{dec_lt}
-use lib.ListN.{length, get_or, set, replicate}
+use lib.ListN.{length, get_or, replicate}
 use lib.Dec.{eqb}
-use lib.Seq.{get_or-set_same, get_or-set_other}
 use borrow.Author.Tests.{eqb-false}
 use Rattle.lists.proofs.Tests.{by-test, dec_eq}
 use Rattle.lists.specs.Member.{Mem, Nodup}
@@ -35,56 +34,6 @@ module _ (ends edges : List ℕ) (v : ℕ) where
     pub stamped : (a : ℕ) → a < i → get_or seen (far_at ends edges v a) 0 ≡ v + 1
     pub only : (w : ℕ) → get_or seen w 0 ≡ v + 1 → (a : ℕ) × (a < i) × (far_at ends edges v a ≡ w)
     pub low : (w : ℕ) → get_or seen w 0 ≤ v + 1
-
-module _ (ends edges : List ℕ) (v : ℕ) where
-  pub seen_none : (seen : List ℕ) → SeenReady ends edges v seen → Seen ends edges v 0 seen
-  seen_none seen r = record {
-    distinct = λ a b h l. absurd (not-suc-le-zero l);
-    stamped = λ a l. absurd (not-suc-le-zero l);
-    only = λ w e. let z : ⊥ = omega (arith, r.old w) in absurd z;
-    low = λ w. omega (arith, r.old w);
-  }
-
-  -- `seen` has a place for the far end of the next edge.
-  pub seen_room : (before seen : List ℕ) (i w : ℕ) → SeenReady ends edges v before → Seen ends edges v i seen → length seen ≡ length before → i < length edges → w ≡ far_end ends (get_or edges i 0) v → w < length seen
-  seen_room before seen i w r s l h p = omega (arith, r.inside i h)
-
-  -- The edge at place i has far end w. Without v's stamp at w, no edge before it has that far end.
-  pub seen_more : (seen : List ℕ) (i w next : ℕ) → Seen ends edges v i seen → w ≡ far_end ends (get_or edges i 0) v → w < length seen → (get_or seen w 0 ≡ v + 1 → ⊥) → next ≡ i + 1 → Seen ends edges v next (set seen w (v + 1))
-  seen_more seen i w next s p h new e = rw e (record {
-    distinct = λ a b l m e. elim (dec_eq b i) [
-      | inl q ↦ new (rw (p ∙ sym (rw q at e)) (s.stamped a (omega arith)))
-      | inr q ↦ s.distinct a b l (omega arith) e
-    ];
-    stamped = λ a l. elim (dec_eq a i) [
-      | inl q ↦ rw (q, ← p) (get_or-set_same seen w (v + 1) 0 h)
-      | inr q ↦ let old = s.stamped a (omega arith) in get_or-set_other seen w (far_at ends edges v a) (v + 1) 0 (λ e. new (rw (sym e) old)) ∙ old
-    ];
-    only = λ x e. elim (dec_eq x w) [
-      | inl q ↦ (i, omega arith, sym (q ∙ p))
-      | inr q ↦ let r = s.only x (sym (get_or-set_other seen w x (v + 1) 0 q) ∙ e) in (r.0, omega (arith, r.1), r.2)
-    ];
-    low = λ x. elim (dec_eq x w) [
-      | inl q ↦ rw q (omega (arith, get_or-set_same seen w (v + 1) 0 h))
-      | inr q ↦ omega (arith, get_or-set_other seen w x (v + 1) 0 q, s.low x)
-    ];
-  })
-
-  -- With v's stamp at w, an edge before it has that far end too.
-  pub seen_twice : (seen : List ℕ) (i w : ℕ) → Seen ends edges v i seen → w ≡ far_end ends (get_or edges i 0) v → i < length edges → get_or seen w 0 ≡ v + 1 → Tells ends edges v true
-  seen_twice seen i w s p h e =
-      let r = s.only w e in
-      record {
-        twice = λ t. record { earlier = r.0; later = i; order = r.1; listed = h; same = r.2 ∙ p };
-        distinct = λ t. absurd (true≢false t);
-      }
-
-  -- No edge is left, and none had its far end stamped.
-  pub seen_all : (seen : List ℕ) (i : ℕ) → Seen ends edges v i seen → length edges ≤ i → Tells ends edges v false
-  seen_all seen i s h = record {
-    twice = λ t. absurd (false≢true t);
-    distinct = λ t a b l m. s.distinct a b l (omega arith);
-  }
 
 -- ---- the whole graph
 
@@ -162,13 +111,6 @@ module _ (n : ℕ) (ends starts entries : List ℕ) (v : ℕ) (table : Table end
 
   pub double_found : (r : Bool) → has_loop ends (edge_count ends) ≡ false → Tells ends edges v r → r ≡ true → true ≡ has_double_edge ends (edge_count ends)
   double_found r loop t d = double_edge ends edges v (table.row v h) loop (t.twice d)
-
-  pub node_more : (r : Bool) (seen after : List ℕ) → Before ends v seen → Tells ends edges v r → r ≡ false → ((w : ℕ) → get_or after w 0 ≤ v + 1) → length after ≡ length seen → Before ends (v + 1) after
-  node_more r seen after b t d low l = record {
-    distinct = λ u k. elim (dec_eq u v) [ inl p ↦ rw (p, ← table.row v h) (t.distinct d) | inr p ↦ b.distinct u (omega arith) ];
-    old = low;
-    size = l ∙ b.size;
-  }
 
 -- After the last node. Of two edges with the same ends both stand at the first end of one, with the same far end there.
 pub no_double : (n : ℕ) (ends : List ℕ) (v : ℕ) (seen : List ℕ) → Passed n ends → has_loop ends (edge_count ends) ≡ false → Before ends v seen → n ≤ v → false ≡ has_double_edge ends (edge_count ends)

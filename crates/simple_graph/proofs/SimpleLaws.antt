@@ -1,50 +1,45 @@
 -- Laws of loops, and of the call.
-use Prim.Native.Nat.{ℕ, ◌+◌, ◌*◌, ◌≤◌, ◌<◌}
-use mathlib.Core.Path.{◌≡◌, refl, sym, ◌∙◌}
+use Prim.Native.Nat.{ℕ, zero, suc, ◌+◌, ◌*◌, ◌≤◌, ◌<◌}
+use mathlib.Core.Path.{◌≡◌, refl, sym, ap, ◌∙◌}
+use mathlib.Core.Logic.{◌⊎◌, inl, inr}
 use mathlib.Core.List.{List, [], ◌∷◌, ◌++◌}
-use mathlib.Core.Bool.{true, false, true≢false, Bool, not}
+use mathlib.Core.Bool.{true, false, true≢false, Bool, not, ◌||◌}
 use native.Mathlib.Omega.{arith}
 use native.Mathlib.Numerals.{add-one}
 use lib.ListN.{length, get_or}
-use lib.Dec.{ltb, leb}
-use borrow.Author.Tests.{eq-eqb, ne_eqb, lt-ltb, le-ltb, le-leb, lt-leb, not-false}
+use lib.Dec.{eqb, ltb, leb}
+use borrow.Author.Tests.{lt-ltb, le-ltb, le-leb, lt-leb, not-false}
 use mathlib.Core.Option.{Option, none, some}
 use Rattle.lists.proofs.Tests.{by-test}
 use Rattle.lists.specs.Search.{any}
-use Rattle.lists.proofs.SearchLaws.{any_false}
 use Rattle.graph.specs.Edges.{edge_count, first_end, second_end, is_loop}
 use Rattle.vizing.specs.MisraGries.{has_loop, has_double_edge, simple_checks}
 use Rattle.graph.specs.Report.{accepted, refused, number, report_of_checked}
 use Rattle.graph.specs.Check.{Check, ◌gives◌, first_refusal, graph_checks, check_graph, Passed}
-use Rattle.graph.proofs.CheckLaws.{passed, refused_first, passed_first, passed_both, passed_one, first_refuses, first_passes, all_passed, answered_refused, answered_accepted, checked_refused, checked_accepted, graph_refused, graph_accepted}
+use Rattle.graph.proofs.CheckLaws.{passed, refused_first, passed_first, passed_both, passed_one, first_refuses, first_passes, all_passed, answered_refused, answered_accepted, checked_refused, checked_accepted, graph_refused}
 use Rattle.graph.specs.declared.Refusal.{Refusal}
 use Rattle.graph.specs.declared.Graph.{Graph}
 use Rattle.std.specs.Prelude.{Result, Ok, Err}
+use Rattle.std.specs.List.{list_any, range_with_len}
 use Rattle.vizing.specs.Demand3.{Admitted}
 use Rattle.vizing.proofs.Theorem.{simple_admitted}
 use Rattle.simple_graph.specs.Simple.{check_simple}
 
--- ---- the search for a loop, edge by edge from the first
+-- ---- the search for a loop
 
-pub no_edge : (ends : List ℕ) → has_loop ends 0 ≡ false
-unfolding has_loop any
-no_edge ends = refl
+-- Whether a number from a on passes is asked of the numbers of a list.
+any_listed : (t : ℕ → Bool) (a n : ℕ) → any t (a + n) ≡ any t a || list_any t (range_with_len a n)
+unfolding any
+any_listed t a zero = let e : a + zero ≡ a = omega arith in rw e (by-test (any t a) (λ q. rw q) (λ q. rw q))
+any_listed t a (suc n) =
+    let e : a + suc n ≡ suc a + n = omega arith in
+    rw (e, add-one a) (any_listed t (suc a) n ∙ by-test (t a) (λ q. rw (q, any) (by-test (any t a) (λ r. rw r) (λ r. rw r))) (λ q. rw (q, any)))
 
--- The ends of edge k, at the places that the code reads, are equal, or are not.
-pub loop_found : (ends : List ℕ) (k : ℕ) → k < edge_count ends → get_or ends (2 * k) 0 ≡ get_or ends (2 * k + 1) 0 → true ≡ has_loop ends (edge_count ends)
-unfolding has_loop is_loop first_end second_end
-loop_found ends k h e =
-    by-test (any (is_loop ends) (edge_count ends))
-    (λ t. sym t)
-    (λ t. absurd (true≢false (sym (eq-eqb (get_or ends (2 * k) 0) (get_or ends (2 * k + 1) 0) e) ∙ any_false (is_loop ends) (edge_count ends) t k h)))
-
-pub no_loop_more : (ends : List ℕ) (k : ℕ) → has_loop ends k ≡ false → (get_or ends (2 * k) 0 ≡ get_or ends (2 * k + 1) 0 → ⊥) → has_loop ends (k + 1) ≡ false
-unfolding has_loop any is_loop first_end second_end
-no_loop_more ends k e n = rw (add-one k, ne_eqb (get_or ends (2 * k) 0) (get_or ends (2 * k + 1) 0) n) e
-
--- No edge is left.
-pub no_loop_all : (ends : List ℕ) (k : ℕ) → has_loop ends k ≡ false → k ≤ edge_count ends → edge_count ends ≤ k → false ≡ has_loop ends (edge_count ends)
-no_loop_all ends k e h b = let p : k ≡ edge_count ends = omega arith in sym (rw p at e)
+-- The ends of an edge are read at the places that the code reads.
+pub loop_told : (ends : List ℕ) (b : Bool)
+    → b ≡ list_any (λ k. eqb (get_or ends (2 * k) 0) (get_or ends (2 * k + 1) 0)) (range_with_len 0 (edge_count ends)) → b ≡ has_loop ends (edge_count ends)
+unfolding has_loop is_loop first_end second_end any
+loop_told ends b e = let z : 0 + edge_count ends ≡ edge_count ends = omega arith in e ∙ sym (rw z at (any_listed (is_loop ends) 0 (edge_count ends)))
 
 -- ---- the graph checks and then those for loops and double edges: one law for each answer, and what the answer tells a caller
 
@@ -68,43 +63,43 @@ module _ (n : ℕ) (ends : List ℕ) (sized : Bool) (starts entries : List ℕ) 
   pub graph_no : (c : Result Graph Refusal) (r : Refusal) → report_of_checked c ≡ check_graph n ends → c ≡ Err r → refused (number r) ≡ check_simple n ends sized starts entries
   graph_no c r e p = refuses (number r) (refused_first (graph_checks n ends) after_graph (number r) (graph_refused n ends c r e p))
 
-  module _ (c : Result Graph Refusal) (g : Graph) (e : report_of_checked c ≡ check_graph n ends) (p : c ≡ Ok g) where
+  module _ (passes : first_refusal (graph_checks n ends) ≡ none) where
     after : (o : Option ℕ) → first_refusal after_graph ≡ o → first_refusal (graph_checks n ends ++ after_graph) ≡ o
-    after o q = passed_first (graph_checks n ends) after_graph (graph_accepted n ends c g e p).0 ∙ q
+    after o q = passed_first (graph_checks n ends) after_graph passes ∙ q
 
-    pub starts_short : length starts ≤ n → refused 5 ≡ check_simple n ends sized starts entries
-    starts_short h = refuses 5 (after _ (first_refuses (leb (length starts) n) 5 _ (le-leb (length starts) n h)))
+    -- One of the slices is too short, or the caller's own are not of the right lengths.
+    pub length_no : (length starts ≤ n) ⊎ ((length entries < length ends) ⊎ (sized ≡ false)) → refused 5 ≡ check_simple n ends sized starts entries
+    length_no w = refuses 5 (after _ (go w))
+      where
+        go : (length starts ≤ n) ⊎ ((length entries < length ends) ⊎ (sized ≡ false)) → first_refusal after_graph ≡ some 5
+        go w = by-test (leb (length starts) n)
+            (λ t. first_refuses (leb (length starts) n) 5 _ t)
+            (λ t. first_passes (leb (length starts) n) 5 _ t ∙ by-test (ltb (length entries) (length ends))
+            (λ u. first_refuses (ltb (length entries) (length ends)) 5 _ u)
+            (λ u. first_passes (ltb (length entries) (length ends)) 5 _ u ∙ first_refuses (not sized) 5 _ (elim w [
+              | inl h ↦ absurd (true≢false (sym (le-leb (length starts) n h) ∙ t))
+              | inr v ↦ elim v [ inl h ↦ absurd (true≢false (sym (lt-ltb (length entries) (length ends) h) ∙ u)) | inr h ↦ ap not h ]
+            ])))
 
-    module _ (rows : n < length starts) where
-      pub entries_short : length entries < length ends → refused 5 ≡ check_simple n ends sized starts entries
-      entries_short h = refuses 5 (after _ (first_passes (leb (length starts) n) 5 _ (lt-leb (length starts) n rows) ∙ first_refuses (ltb (length entries) (length ends)) 5 _ (lt-ltb (length entries) (length ends) h)))
+    module _ (rows : n < length starts) (room : length ends ≤ length entries) (size : sized ≡ true) where
+      after_size : first_refusal after_graph ≡ first_refusal (simple_checks ends)
+      after_size = first_passes (leb (length starts) n) 5 _ (lt-leb (length starts) n rows)
+          ∙ first_passes (ltb (length entries) (length ends)) 5 _ (le-ltb (length entries) (length ends) room)
+          ∙ first_passes (not sized) 5 _ (ap not size)
 
-      module _ (room : length ends ≤ length entries) where
-        after_room : first_refusal after_graph ≡ first_refusal ((not sized gives 5) ∷ simple_checks ends)
-        after_room = first_passes (leb (length starts) n) 5 _ (lt-leb (length starts) n rows) ∙ first_passes (ltb (length entries) (length ends)) 5 _ (le-ltb (length entries) (length ends) room)
+      pub loop_no : true ≡ has_loop ends (edge_count ends) → refused 6 ≡ check_simple n ends sized starts entries
+      loop_no h = refuses 6 (after _ (after_size ∙ first_refuses (has_loop ends (edge_count ends)) 6 _ (sym h)))
 
-        pub size_no : not sized ≡ true → refused 5 ≡ check_simple n ends sized starts entries
-        size_no h = refuses 5 (after _ (after_room ∙ first_refuses (not sized) 5 _ h))
+      module _ (h : false ≡ has_loop ends (edge_count ends)) where
+        after_loop : (o : Option ℕ) → first_refusal ((has_double_edge ends (edge_count ends) gives 7) ∷ []) ≡ o → first_refusal (graph_checks n ends ++ after_graph) ≡ o
+        after_loop o q = after _ (after_size ∙ (first_passes (has_loop ends (edge_count ends)) 6 _ (sym h) ∙ q))
 
-        module _ (size : not sized ≡ false) (b : Bool) (f : b ≡ has_loop ends (edge_count ends)) where
-          after_size : first_refusal after_graph ≡ first_refusal (simple_checks ends)
-          after_size = after_room ∙ first_passes (not sized) 5 _ size
+        pub double_no : true ≡ has_double_edge ends (edge_count ends) → refused 7 ≡ check_simple n ends sized starts entries
+        double_no k = refuses 7 (after_loop _ (first_refuses (has_double_edge ends (edge_count ends)) 7 [] (sym k)))
 
-          pub loop_no : b ≡ true → refused 6 ≡ check_simple n ends sized starts entries
-          loop_no h = refuses 6 (after _ (after_size ∙ first_refuses (has_loop ends (edge_count ends)) 6 _ (sym f ∙ h)))
-
-          module _ (h : b ≡ false) (d : Bool) (j : d ≡ has_double_edge ends (edge_count ends)) where
-            after_loop : (o : Option ℕ) → first_refusal ((has_double_edge ends (edge_count ends) gives 7) ∷ []) ≡ o → first_refusal (graph_checks n ends ++ after_graph) ≡ o
-            after_loop o q = after _ (after_size ∙ (first_passes (has_loop ends (edge_count ends)) 6 _ (sym f ∙ h) ∙ q))
-
-            pub double_no : d ≡ true → refused 7 ≡ check_simple n ends sized starts entries
-            double_no k = refuses 7 (after_loop _ (first_refuses (has_double_edge ends (edge_count ends)) 7 [] (sym j ∙ k)))
-
-            pub simple_yes : d ≡ false → accepted (g.nodes, g.edges) ≡ check_simple n ends sized starts entries
-            unfolding check_simple
-            simple_yes k =
-                let q = graph_accepted n ends c g e p in
-                rw (q.1, q.2) (answered_accepted (graph_checks n ends ++ after_graph) (n, edge_count ends) (after_loop _ (first_passes (has_double_edge ends (edge_count ends)) 7 [] (sym j ∙ k) ∙ all_passed)))
+        pub simple_yes : false ≡ has_double_edge ends (edge_count ends) → accepted (n, edge_count ends) ≡ check_simple n ends sized starts entries
+        unfolding check_simple
+        simple_yes k = answered_accepted (graph_checks n ends ++ after_graph) (n, edge_count ends) (after_loop _ (first_passes (has_double_edge ends (edge_count ends)) 7 [] (sym k) ∙ all_passed))
 
   -- ---- what the answer tells, where both slices have room for every table
 
