@@ -1,9 +1,9 @@
 -- The fan's places up to w as the edge table gives them, and that a right table gives those of the theory.
 use Prim.Native.Nat.{ℕ, suc, ◌+◌, ◌≤◌, ◌<◌}
-use mathlib.Core.Path.{◌≡◌, refl, sym, ap, ◌∙◌}
+use mathlib.Core.Path.{◌≡◌, refl, ap, ◌∙◌}
 use mathlib.Core.Logic.{inl, inr}
 use mathlib.Core.List.{List, [], ◌∷◌}
-use mathlib.Core.Bool.{Bool, true, false}
+use mathlib.Core.Bool.{true, false}
 use native.Mathlib.Omega.{arith}
 use native.Mathlib.Numerals.{add-one}
 use lib.ListN.{length, get_or, take, drop, drop_of_length-le}
@@ -58,16 +58,14 @@ places_taken ends T d u x k ks fan r e f =
 
 -- ---- as the code counts them
 
-module _ (ends T : List ℕ) (d u : ℕ) (fan : List ℕ) (x w r : ℕ) (e : w + length (table_places ends T d u x (drop w fan)) ≡ r) where
-  pub places_end : length fan ≤ w → w ≡ r
+module _ (ends T : List ℕ) (d u x : ℕ) (fan : List ℕ) (w : ℕ) where
+  pub places_found : w < length fan → is_empty T x d ≡ true → length (table_places ends T d u x (drop w fan)) ≡ 0
+  places_found h p = rw (drop-cons fan w 0 h, places_stop ends T d u x (get_or fan w 0) (drop (suc w) fan) p)
+
+  pub places_next : w < length fan → is_empty T x d ≡ false
+      → length (table_places ends T d u x (drop w fan)) ≡ 1 + length (table_places ends T d u (far_end ends (get_or fan w 0) u) (drop (w + 1) fan))
+  places_next h p = rw (drop-cons fan w 0 h, places_go ends T d u x (get_or fan w 0) (drop (suc w) fan) p, add-one w) (omega arith)
+
+  pub places_end : length fan ≤ w → length (table_places ends T d u x (drop w fan)) ≡ 0
   unfolding table_places
-  places_end h = let z = rw (drop_of_length-le fan {i = w} h) at e in omega arith
-
-  module _ (h : w < length fan) (t : Bool) (said : t ≡ is_empty T x d) where
-    pub places_found : t ≡ true → w ≡ r
-    places_found q = let z = rw (drop-cons fan w 0 h, places_stop ends T d u x (get_or fan w 0) (drop (suc w) fan) (sym said ∙ q)) at e in omega arith
-
-    pub places_next : (y : ℕ) → t ≡ false → y ≡ far_end ends (get_or fan w 0) u → (w + 1) + length (table_places ends T d u y (drop (w + 1) fan)) ≡ r
-    places_next y q f =
-        let z = rw (drop-cons fan w 0 h, places_go ends T d u x (get_or fan w 0) (drop (suc w) fan) (sym said ∙ q)) at e in
-        rw (add-one w, f) (omega arith)
+  places_end h = rw (drop_of_length-le fan {i = w} h)

@@ -11,34 +11,28 @@ use graph::{Color, EdgeIndex, NodeIndex};
 fn mark_of(marks: &[u16], edge: EdgeIndex) -> u16
     ensures answer { result ≡ get_or marks.now edge.0 0 }
 {
-    let k = edge.0 as usize;
-    if k < marks.len() { marks[k] } else { 0 }
+    marks.get(edge.0 as usize).copied().unwrap_or(0)
 }
 
 pub fn set_mark(marks: &mut [u16], edge: EdgeIndex, stamp: u16)
     ensures marks { marks.new ≡ set marks.old edge.0 stamp }
 {
     let k = edge.0 as usize;
-    if marks.len() <= k {
-        return;
+    if k < marks.len() {
+        marks[k] = stamp;
     }
-    marks[k] = stamp;
 }
 
 // Whether the edge is coloured and not in the fan yet.
+#[tactic(auto, unfolding(crate::specs::Candidates::may_join, graph::specs::Colored::is_colored))]
 fn may_join(work: &[u16], marks: &[u16], stamp: u16, edge: EdgeIndex) -> bool
     ensures answer { result ≡ may_join work.now marks.now stamp edge.0 }
 {
-    if mark_of(marks, edge) == stamp {
-        return false;
-    }
-    if color_of(work, edge).0 == Color::NONE {
-        return false;
-    }
-    true
+    mark_of(marks, edge) != stamp && color_of(work, edge) != Color::none()
 }
 
 // Whether the edge joins the fan whose last edge has this far end. The mark comes last: most candidates fail at the table.
+#[tactic(auto, unfolding(crate::specs::Candidates::may_join, crate::specs::Candidates::joins_marked, graph::specs::Colored::is_colored))]
 fn joins(
     work: &[u16],
     table: &[u16],
@@ -50,14 +44,7 @@ fn joins(
     ensures answer { result ≡ joins_marked work.now table.now marks.now stamp far.0 edge.0 }
 {
     let color = color_of(work, edge);
-    if color.0 == Color::NONE {
-        return false;
-    }
-    if is_free(table, far, color) {
-        mark_of(marks, edge) != stamp
-    } else {
-        false
-    }
+    color != Color::none() && is_free(table, far, color) && mark_of(marks, edge) != stamp
 }
 
 // The first candidate from this place on that joins.
@@ -72,27 +59,24 @@ pub fn first_joining(
 ) -> Option<EdgeIndex>
     ensures answer { option_of result ≡ first_that (joins_marked work.now table.now marks.now stamp far.0) (drop from near.now) }
 {
-    let mut i = from;
-    while i < near.len() {
-        let edge = EdgeIndex(near[i]);
+    for edge in near.get(from..)? {
+        let edge = EdgeIndex(*edge);
         if joins(work, table, marks, stamp, far, edge) {
             return Some(edge);
         }
-        i += 1;
     }
     None
 }
 
 // The first place from this one on whose candidate is coloured and not in the fan yet, or the end; from beyond the end, the place itself.
+#[tactic(auto, using(crate::proofs::CandidateLaws::place_here, crate::proofs::CandidateLaws::place_next, crate::proofs::CandidateLaws::place_end))]
 pub fn skip(work: &[u16], marks: &[u16], stamp: u16, near: &[u16], from: usize) -> usize
     ensures answer { result ≡ from + first_place (may_join work.now marks.now stamp) (drop from near.now) }
 {
-    let mut i = from;
-    while i < near.len() {
+    for i in from..near.len() {
         if may_join(work, marks, stamp, EdgeIndex(near[i])) {
             return i;
         }
-        i += 1;
     }
-    i
+    from.max(near.len())
 }

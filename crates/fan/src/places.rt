@@ -8,6 +8,7 @@ use graph::{Color, EdgeIndex, NodeIndex};
 
 // How many places the fan at the node has up to w, the first whose far end has the colour free; far is that of place 0. The last
 // place is not asked: it is w if no place before it is.
+#[tactic(auto, using(crate::proofs::TablePlacesLaws::places_found, crate::proofs::TablePlacesLaws::places_next, crate::proofs::TablePlacesLaws::places_end))]
 pub fn places_to(
     ends: &[u16],
     table: &[u16],
@@ -18,14 +19,12 @@ pub fn places_to(
 ) -> usize
     ensures answer { result ≡ 1 + length (table_places ends.now table.now color.0 node.0 far.0 (drop 1 fan.now)) }
 {
-    let mut count = 1;
     let mut end = far;
-    while count < fan.len() {
+    for count in 1..fan.len() {
         if is_free(table, end, color) {
             return count;
         }
         end = far_end(ends, EdgeIndex(fan[count]), node);
-        count += 1;
     }
-    count
+    fan.len().max(1)
 }

@@ -1,14 +1,10 @@
 -- `skip` meets its contract. The invariant: the place that the search from i on finds is what the search from the first place finds.
--- The measure: the candidates still to be asked, length near - i; each turn passes over one.
-use Prim.Native.Nat.{◌+◌, ◌-◌}
+use Prim.Native.Nat.{◌+◌}
 use mathlib.Core.Path.{◌≡◌}
-use lib.ListN.{length, drop}
+use lib.ListN.{drop}
 use Rattle.lists.specs.Search.{first_place}
 use Rattle.fan.specs.Candidates.{may_join}
 use Rattle.fan.proofs.candidates.skip.Given as goal
 
 abbrev pub invariant-loop-i : goal.invariant-loop-i
 invariant-loop-i l = l.i + first_place (may_join l.work l.marks l.stamp) (drop l.i l.near) ≡ l.from + first_place (may_join l.work l.marks l.stamp) (drop l.from l.near)
-
-abbrev pub decreases-loop-i : goal.decreases-loop-i
-decreases-loop-i l = length l.near - l.i
