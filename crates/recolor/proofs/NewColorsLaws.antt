@@ -1,14 +1,10 @@
 -- Laws of what specs/NewColors defines.
-use Prim.Native.Nat.{ℕ, ◌+◌, ◌≤◌, ◌<◌}
+use Prim.Native.Nat.{ℕ, ◌+◌, ◌-◌, ◌≤◌, ◌<◌}
 use mathlib.Core.Path.{◌≡◌, refl, sym, ap, ◌∙◌}
 use mathlib.Core.List.{List, [], ◌∷◌}
 use native.Mathlib.Omega.{arith}
-use native.Mathlib.Numerals.{add-one}
-use lib.ListN.{length, get_or, set, take, drop, length-map, length-append, drop_of_length-le}
-use lib.Seq.{drop-cons}
-use Rattle.graph.specs.Colored.{color_of}
-use Rattle.vizing.specs.MisraGries.{swap}
-use Rattle.vizing.proofs.AlternatingPath.{swap_left, swap_right, swap_other}
+use lib.ListN.{length, set, take, drop, length-map, length-append, length-drop, drop_of_length-le}
+use lib.Seq.{take_all}
 use Rattle.edge_table.specs.EdgeTable.{exchanged_colors, rotated_colors}
 use Rattle.recolor.specs.Front.{put_front}
 use Rattle.recolor.proofs.FrontLaws.{front_short, front_put, put_front_lem, Front, front_start, front_next, front_all}
@@ -16,24 +12,8 @@ use Rattle.recolor.specs.NewColors.{shifted_colors}
 
 -- ---- as the code tests and writes them
 
-pub swap_first : (c d x : ℕ) → x ≡ c → d ≡ swap c d x
-swap_first c d x e = rw (e, swap_left c d)
-
-pub swap_second : (c d x : ℕ) → x ≡ d → c ≡ swap c d x
-swap_second c d x e = rw (e, swap_right c d)
-
-pub swap_neither : (c d x : ℕ) → (x ≡ c → ⊥) → (x ≡ d → ⊥) → x ≡ swap c d x
-swap_neither c d x n o = rw (swap_other c d x n o)
-
 pub exchanged_short : (l : List ℕ) (c d : ℕ) (ks out : List ℕ) → length out < length ks → out ≡ put_front (exchanged_colors l c d ks) out
 exchanged_short l c d ks out h = front_short (exchanged_colors l c d ks) out (simp length-map h)
-
-pub exchanged_start : (l : List ℕ) (c d : ℕ) (ks out : List ℕ) → length ks ≤ length out → Front (exchanged_colors l c d ks) out out (exchanged_colors l c d ks) 0
-exchanged_start l c d ks out h = front_start (exchanged_colors l c d ks) out (simp length-map h)
-
-module _ (R out₀ out l : List ℕ) (c d : ℕ) (ks : List ℕ) (i : ℕ) (F : Front R out₀ out (exchanged_colors l c d (drop i ks)) i) where
-  pub exchanged_next : (x y : ℕ) → i < length ks → x ≡ color_of l (get_or ks i 0) → y ≡ swap c d x → Front R out₀ (set out i y) (exchanged_colors l c d (drop (i + 1) ks)) (i + 1)
-  exchanged_next x y h p q = front_next R out₀ out (exchanged_colors l c d (drop (i + 1) ks)) i y (rw (q, p, add-one i) (rw (drop-cons ks i 0 h) at F))
 
 pub exchanged_end : (l : List ℕ) (c d : ℕ) (ks out₀ out : List ℕ) (i : ℕ) → Front (exchanged_colors l c d ks) out₀ out (exchanged_colors l c d (drop i ks)) i → length ks ≤ length out₀ → length ks ≤ i → out ≡ put_front (exchanged_colors l c d ks) out₀
 exchanged_end l c d ks out₀ out i F h b =
@@ -63,17 +43,22 @@ shifted_none l (k ∷ ks) d out h = let z : ⊥ = omega arith in absurd z
 pub shifted_short : (l fan : List ℕ) (d : ℕ) (out : List ℕ) → length out < length fan → out ≡ put_front (shifted_colors l fan d) out
 shifted_short l fan d out h = front_short (shifted_colors l fan d) out (omega (arith, shifted_length l fan d))
 
-pub shifted_start : (l fan : List ℕ) (d : ℕ) (out : List ℕ) → 1 ≤ length fan → length fan ≤ length out → Front (shifted_colors l fan d) out out (rotated_colors l (drop (0 + 1) fan) d) 0
-shifted_start l fan d out h b = rw (← shifted_some l fan d h) (front_start (shifted_colors l fan d) out (omega (arith, shifted_length l fan d)))
+-- The places after the first, as the code takes them.
+later_places : (fan : List ℕ) → take (length fan - 1) (drop 1 fan) ≡ drop 1 fan
+later_places fan = take_all (length fan - 1) (drop 1 fan) (omega (arith, length-drop 1 fan))
 
-module _ (R out₀ out l ks : List ℕ) (d i : ℕ) (F : Front R out₀ out (rotated_colors l (drop (i + 1) ks) d) i) where
-  pub shifted_next : (x : ℕ) → i + 1 < length ks → x ≡ color_of l (get_or ks (i + 1) 0) → Front R out₀ (set out i x) (rotated_colors l (drop (i + 1 + 1) ks) d) (i + 1)
-  shifted_next x h p = front_next R out₀ out (rotated_colors l (drop (i + 1 + 1) ks) d) i x (rw (p, add-one (i + 1)) (rw (drop-cons ks (i + 1) 0 h) at F))
+module _ (l fan : List ℕ) (d : ℕ) (out₀ : List ℕ) (some : 1 ≤ length fan) (room : length fan ≤ length out₀) where
+  abbrev later : List ℕ
+  later = take (length fan - 1) (drop 1 fan)
 
-pub shifted_end : (l fan : List ℕ) (d : ℕ) (out₀ out : List ℕ) (i : ℕ) → Front (shifted_colors l fan d) out₀ out (rotated_colors l (drop (i + 1) fan) d) i → length fan ≤ length out₀ → length fan ≤ i + 1 → set out i d ≡ put_front (shifted_colors l fan d) out₀
-shifted_end l fan d out₀ out i F h b =
-    let R = shifted_colors l fan d in
-    front_put R out₀ (set out i d) (omega (arith, shifted_length l fan d)) (front_all R out₀ (set out i d) (i + 1) (front_next R out₀ out [] i d (rw (drop_of_length-le fan {i = i + 1} b) at F))).0
+  pub shifted_start : (length later < length out₀) × Front (shifted_colors l fan d) out₀ out₀ (rotated_colors l later d) 0
+  shifted_start = rw (later_places fan, ← shifted_some l fan d some) (omega (arith, length-drop 1 fan), front_start (shifted_colors l fan d) out₀ (omega (arith, shifted_length l fan d)))
+
+  pub shifted_end : (out : List ℕ) (i : ℕ) → Front (shifted_colors l fan d) out₀ out (rotated_colors l (drop i later) d) i → i ≡ length later → set out (length later) d ≡ put_front (shifted_colors l fan d) out₀
+  shifted_end out i F e =
+      let R = shifted_colors l fan d in
+      let whole : Front R out₀ out (d ∷ []) i = rw (drop_of_length-le later {i = i} (omega arith)) at F in
+      rw (← e) (front_put R out₀ (set out i d) (omega (arith, shifted_length l fan d)) (front_all R out₀ (set out i d) (i + 1) (front_next R out₀ out [] i d whole)).0)
 
 -- What a caller reads.
 pub shifted_front : (l fan : List ℕ) (d : ℕ) (out₀ out : List ℕ) → out ≡ put_front (shifted_colors l fan d) out₀ → 1 ≤ length fan → length fan ≤ length out₀ → take (length fan) out ≡ rotated_colors l (drop 1 fan) d

@@ -6,9 +6,11 @@ ghost use Rattle.recolor.specs.TablePath.{table_path};
 use edge_table::edge_of_color;
 use edge_walk::far_end;
 use graph::{Color, NodeIndex};
+use std::mem;
 
 // The path from the node along colours first, second, first and so on, as far as it goes and out has room, to the front of
 // out; the answer is the number of its edges.
+#[tactic(auto, using(crate::proofs::TablePathLaws::follow_start, crate::proofs::TablePathLaws::follow_none, crate::proofs::TablePathLaws::follow_full))]
 pub fn follow(
     ends: &[u16],
     table: &[u16],
@@ -23,18 +25,14 @@ pub fn follow(
     let mut end = node;
     let mut color = first;
     let mut other = second;
-    let mut len = 0;
     // never full where out has a place for each node: no node comes twice
-    while len < out.len() {
+    for len in 0..out.len() {
         let Some(edge) = edge_of_color(table, end, color) else {
             return len;
         };
         out[len] = edge.0;
         end = far_end(ends, edge, end);
-        let last = color;
-        color = other;
-        other = last;
-        len += 1;
+        mem::swap(&mut color, &mut other);
     }
-    len
+    out.len()
 }
