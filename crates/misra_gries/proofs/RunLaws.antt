@@ -33,7 +33,7 @@ use Rattle.vizing.proofs.AddEdgeLaws.{stored_kept, stored_uncolored, stored_take
 use Rattle.repaint.specs.Repaint.{TableOf}
 use Rattle.repaint.proofs.RepaintLaws.{get_or_same}
 use Rattle.misra_gries.specs.declared.tally.Tally.{Tally}
-use Rattle.misra_gries.specs.Step.{InRange, Ready, top_color, tally_of, tally_days, Tallied, held_of, steps_from, stored_held, Running}
+use Rattle.misra_gries.specs.Step.{InRange, top_color, Stepped, tally_of, tally_days, noted_of, held_of, steps_from, stored_held, Running}
 
 -- ---- Days read off the tally: the greatest colour plus one, or 0 where no edge is coloured
 
@@ -134,18 +134,7 @@ module _ (n : ℕ) (ends starts entries work table marks : List ℕ) (t : Tally)
   pub running_room : edge_count ends ≤ length work
   running_room = omega (arith, running.kept.size, running.admitted.edges)
 
-  pub running_ready : k < edge_count ends → Ready n ends starts entries work table marks k
-  running_ready h = record {
-    admitted = running.admitted;
-    rows = running.rows;
-    edge = h;
-    kept = running.kept;
-    tabled = running.tabled;
-    size = running.size;
-    unmarked = running.unmarked;
-  }
-
-  module _ (t' : Tally) (work' table' marks' : List ℕ) (h : k < edge_count ends) (s : Tallied n ends starts entries work table marks k t t' work' table' marks') where
+  module _ (t' : Tally) (work' table' marks' : List ℕ) (h : k < edge_count ends) (color : ℕ) (s : Stepped n ends starts entries work table marks k color work' table' marks') (noted : t' ≡ noted_of t color) where
     -- The tally of the step is the definition's.
     raised : t'.greatest ≡ greatest_color work'
     unfolding top_color
@@ -153,24 +142,23 @@ module _ (n : ℕ) (ends starts entries work table marks : List ℕ) (t : Tally)
         let a = running.admitted in
         let m = edge_count ends in
         let g = greatest_step ends m n (InRange n ends) a.simple a.inside a.edges (admitted_palette n ends a) work k h running.kept in
-        ap (λ (x : Tally). x.greatest) s.noted ∙ (greater t.greatest s.color ∙ (ap (λ (i : ℕ). max i s.color) running.greatest ∙ (ap (max (greatest_color work)) s.stepped.top ∙ (sym g ∙ sym (ap greatest_color s.stepped.list)))))
+        ap (λ (x : Tally). x.greatest) noted ∙ (greater t.greatest color ∙ (ap (λ (i : ℕ). max i color) running.greatest ∙ (ap (max (greatest_color work)) s.top ∙ (sym g ∙ sym (ap greatest_color s.list)))))
 
     counted : t'.edges ≡ t.edges + 1
-    counted = ap (λ (x : Tally). x.edges) s.noted
+    counted = ap (λ (x : Tally). x.edges) noted
 
     pub running_more : Running n ends starts entries work' table' marks' t' (k + 1)
     running_more =
         let a = running.admitted in
         let m = edge_count ends in
-        let e = s.stepped in
         record {
           admitted = a;
           rows = running.rows;
           bound = omega arith;
-          kept = rw (add-one k, e.list) (step_keeps ends m n (InRange n ends) a.simple a.inside a.edges (admitted_palette n ends a) work k h running.kept);
-          tabled = e.tabled;
-          size = omega (arith, e.size, running.size);
-          unmarked = λ j. omega (arith, e.marked j);
+          kept = rw (add-one k, s.list) (step_keeps ends m n (InRange n ends) a.simple a.inside a.edges (admitted_palette n ends a) work k h running.kept);
+          tabled = s.tabled;
+          size = omega (arith, s.size, running.size);
+          unmarked = λ j. omega (arith, s.marked j);
           edges = omega (arith, counted, running.edges);
           greatest = raised;
         }
@@ -182,8 +170,8 @@ module _ (n : ℕ) (ends starts entries work table marks : List ℕ) (t : Tally)
         let m = edge_count ends in
         let count : m - k ≡ suc (m - suc k) = omega arith in
         let now = held_of work t in
-        let list : (step_held ends m n now k).list ≡ work' = step_list ends m n now k ∙ sym s.stepped.list in
-        let tally = tally_same (step_held ends m n now k).tally (tally_of t') (step_edges ends m n now k ∙ omega (arith, counted)) (step_greatest ends m n now k ∙ (ap greatest_color (sym s.stepped.list) ∙ sym raised)) in
+        let list : (step_held ends m n now k).list ≡ work' = step_list ends m n now k ∙ sym s.list in
+        let tally = tally_same (step_held ends m n now k).tally (tally_of t') (step_edges ends m n now k ∙ omega (arith, counted)) (step_greatest ends m n now k ∙ (ap greatest_color (sym s.list) ∙ sym raised)) in
         rw (add-one k) (ap (λ (x : Held). steps_from ends m n x (suc k) (m - suc k)) (sym (held_same (step_held ends m n now k) (held_of work' t') list tally)) ∙ (rw count at e))
 
   -- All edges are done: the steps that are left hold what is here, and `days` comes from the tally.

@@ -34,38 +34,27 @@ use Rattle.fan.proofs.TablePlacesLaws.{table_places_lem, places_taken}
 
 -- ---- the path exchanged
 
--- The path from u along d, c stands in the first len places of an array of `size` places.
-pub record Followed (ends T : List ℕ) (n u d c size : ℕ) (edges : List ℕ) (len : ℕ) : Type 0 where
+-- The path from u along d, c stands in the first len places of an array.
+pub record Followed (ends T : List ℕ) (n u d c : ℕ) (edges : List ℕ) (len : ℕ) : Type 0 where
   pub path : take len edges ≡ table_path ends T n u d c
-  pub inside : len ≤ length edges
   pub filled : len ≡ length (take len edges)
-  pub short : len ≤ size
 
 -- The first n places of the array A were lent to `follow`, and hold L afterwards.
-pub path_followed : (ends T : List ℕ) (n u d c : ℕ) (A L : List ℕ) (len : ℕ) → n ≤ length A → length A ≡ 512 → length L ≡ length (take n A)
+pub path_followed : (ends T : List ℕ) (n u d c : ℕ) (A L : List ℕ) (len : ℕ) → n ≤ length A → length L ≡ length (take n A)
     → (take len L ≡ table_path ends T (length (take n A)) u d c) × ((len ≡ length (table_path ends T (length (take n A)) u d c)) × (len ≤ length (take n A)))
-    → Followed ends T n u d c 512 (L ++ drop n A) len
-path_followed ends T n u d c A L len room size kept e =
-    let lent = length-take-le n A room in
-    let inside : len ≤ length (L ++ drop n A) = rw (length-append L (drop n A)) (omega (arith, kept, e.1.1)) in
-    record {
-      path = take-append-le len L (drop n A) (omega (arith, kept, e.1.1)) ∙ (e.0 ∙ ap (λ (i : ℕ). table_path ends T i u d c) lent);
-      inside = inside;
-      filled = sym (length-take-le len (L ++ drop n A) inside);
-      short = omega (arith, lent, e.1.1, room, size);
-    }
+    → Followed ends T n u d c (L ++ drop n A) len
+path_followed ends T n u d c A L len room kept e = record {
+  path = take-append-le len L (drop n A) (omega (arith, kept, e.1.1)) ∙ (e.0 ∙ ap (λ (i : ℕ). table_path ends T i u d c) (length-take-le n A room));
+  filled = sym (length-take-le len (L ++ drop n A) (rw (length-append L (drop n A)) (omega (arith, kept, e.1.1))));
+}
 
 -- An array of `size` places was lent, and holds L afterwards: the path ended before its last place.
 pub path_few : (ends T : List ℕ) (n u d c size : ℕ) (L : List ℕ) (len : ℕ) → size ≤ n → (len ≡ size → ⊥) → length L ≡ size
-    → (take len L ≡ table_path ends T size u d c) × ((len ≡ length (table_path ends T size u d c)) × (len ≤ size)) → Followed ends T n u d c size L len
-path_few ends T n u d c size L len room ended kept e =
-    let inside : len ≤ length L = omega (arith, e.1.1) in
-    record {
-      path = e.0 ∙ sym (path_ended ends T size n u d c (omega (arith, e.1.0, e.1.1, ended)) room);
-      inside = inside;
-      filled = sym (length-take-le len L inside);
-      short = e.1.1;
-    }
+    → (take len L ≡ table_path ends T size u d c) × ((len ≡ length (table_path ends T size u d c)) × (len ≤ size)) → Followed ends T n u d c L len
+path_few ends T n u d c size L len room ended kept e = record {
+  path = e.0 ∙ sym (path_ended ends T size n u d c (omega (arith, e.1.0, e.1.1, ended)) room);
+  filled = sym (length-take-le len L (omega (arith, e.1.1)));
+}
 
 module _ (ends l T : List ℕ) (n u c d : ℕ) (E : Exchanging ends n l T u c d) where
   right_path : table_path ends T n u d c ≡ path ends (edge_count ends) n l u d c
@@ -77,13 +66,17 @@ module _ (ends l T : List ℕ) (n u c d : ℕ) (E : Exchanging ends n l T u c d)
       let p : path ends (edge_count ends) n l u d c ≡ [] = sym right_path ∙ path_none ends T n u d c (sym e ∙ t) in
       record { count_is = sym (ap length p); list = sym (ap (exchange l c d) p ∙ exchange_none l c d); tabled = E.tabled }
 
-  pub path_exchanged : (es out₀ out l' T' : List ℕ) (len : ℕ) → es ≡ table_path ends T n u d c → len ≡ length es → len ≤ length out₀ → out ≡ put_front (exchanged_colors l c d es) out₀ → state l' T' ≡ repainted ends (state l T) es (take len out) → Exchanged n ends l u c d len l' T'
-  path_exchanged es out₀ out l' T' len p q h r s =
+  pub path_exchanged : (es l' T' : List ℕ) (len : ℕ) → es ≡ table_path ends T n u d c → len ≡ length es → state l' T' ≡ repainted ends (state l T) es (exchanged_colors l c d es) → Exchanged n ends l u c d len l' T'
+  path_exchanged es l' T' len p q s =
       let e = p ∙ right_path in
-      let colors : take len out ≡ exchanged_colors l c d es = ap (λ (i : ℕ). take i out) q ∙ exchanged_front l c d es out₀ out r (omega (arith, q)) in
-      let right = s ∙ (ap (repainted ends (state l T) es) colors ∙ ap (λ (ks : List ℕ). repainted ends (state l T) ks (exchanged_colors l c d ks)) e) in
+      let right = s ∙ ap (λ (ks : List ℕ). repainted ends (state l T) ks (exchanged_colors l c d ks)) e in
       let done = exchange_done ends (edge_count ends) l T E.tabled l' T' c d (path ends (edge_count ends) n l u d c) E.allowed right in
       record { count_is = q ∙ ap length e; list = done.0; tabled = done.1 }
+
+-- The path's edges with their colours, which stand at the front of the lent slice.
+pub edges_exchanged : (ends l T : List ℕ) (c d : ℕ) (es out₀ out l' T' : List ℕ) → length es ≤ length out₀ → out ≡ put_front (exchanged_colors l c d es) out₀ → state l' T' ≡ repainted ends (state l T) es (take (length es) out)
+    → state l' T' ≡ repainted ends (state l T) es (exchanged_colors l c d es)
+edges_exchanged ends l T c d es out₀ out l' T' h r s = s ∙ ap (repainted ends (state l T) es) (exchanged_front l c d es out₀ out r h)
 
 -- ---- the fan rotated
 
@@ -97,9 +90,6 @@ module _ (ends l T fan : List ℕ) (d room : ℕ) (R : Rotating ends l T fan d r
   module _ (out₀ out : List ℕ) (e : out ≡ put_front (shifted_colors l fan d) out₀) (fits : length fan ≤ length out₀) where
     taken_colors : take (length fan) out ≡ rotated_colors l (drop 1 fan) d
     taken_colors = shifted_front l fan d out₀ out e R.some fits
-
-    pub rotated_length : length fan ≡ length (take (length fan) out)
-    rotated_length = R.allowed.same_length ∙ sym (ap length taken_colors)
 
     pub fan_rotated : (l' T' : List ℕ) → state l' T' ≡ repainted ends (state l T) fan (take (length fan) out) → Rotated ends l fan d l' T'
     fan_rotated l' T' = given (take (length fan) out) l' T' taken_colors

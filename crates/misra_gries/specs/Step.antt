@@ -98,7 +98,7 @@ pub record Turned (n : ℕ) (ends work : List ℕ) (k color : ℕ) (work' table'
   pub tabled : TableOf ends (edge_count ends) work' table'
   pub top : color ≡ top_color (find ends (edge_count ends) n work k)
 
--- ---- The tally that the code keeps, after one edge more and after a step that gave it its colour.
+-- ---- The tally that the code keeps, after one edge more.
 
 -- The definition's tally with these two numbers.
 abbrev pub tally_of : Tally → definition.Tally
@@ -114,12 +114,6 @@ noted_of t c = record {
   edges = t.edges + 1;
   greatest = cond (ltb t.greatest c) c t.greatest;
 }
-
--- the step gave the edge e some colour, and the tally t became t' by it
-pub record Tallied (n : ℕ) (ends starts entries work table marks : List ℕ) (e : ℕ) (t t' : Tally) (work' table' marks' : List ℕ) : Type 0 where
-  pub color : ℕ
-  pub stepped : Stepped n ends starts entries work table marks e color work' table' marks'
-  pub noted : t' ≡ noted_of t color
 
 -- ---- The run: the working list, its table, the marks and the tally before edge k's turn.
 

@@ -28,19 +28,17 @@ pub(crate) fn grow(
     ensures marks { (j : ℕ) → get_or marks.new j 0 ≤ stamp }
 {
     let mut next = edge;
-    let mut len = 0;
     let mut lo = 0;
     // never full: a fan has at most as many edges as its node
-    while len < out.len() {
+    for len in 0..out.len() {
         out[len] = next.0;
         set_mark(marks, next, stamp);
-        len += 1;
         let far = far_end(ends, next, node);
         lo = skip(work, marks, stamp, near, lo);
         let Some(joining) = first_joining(work, table, marks, stamp, far, near, lo) else {
-            return len;
+            return len + 1;
         };
         next = joining;
     }
-    len
+    out.len()
 }

@@ -16,7 +16,7 @@ use graph::{Color, Graph, Refusal, copy_colors};
 use run::{days_after, run};
 use simple_graph::check_simple;
 use stored_colors::{color_stored, max_degree, sizes_fit};
-use tally::tally_of;
+use tally::Tally;
 
 mod grow;
 mod run;
@@ -48,7 +48,7 @@ fn color_from(
     }
     let mut marks = [0u16; Graph::MAX_EDGES];
     let tally = run(
-        tally_of(stored),
+        Tally::of(stored),
         stored.len(),
         n,
         ends,
@@ -60,8 +60,7 @@ fn color_from(
     );
     let edges = ends.len() / 2;
     copy_colors(&work[..edges], colors);
-    let days = days_after(tally, stored.len(), colors);
-    Ok(days)
+    Ok(days_after(tally, stored.len(), colors))
 }
 
 // Each edge gets a colour, by Misra and Gries 1992. A wrong length is told after the graph checks and before loops and double edges.
@@ -73,11 +72,8 @@ pub fn misra_gries_edge_color(n: usize, ends: &[u16], colors: &mut [u16]) -> Res
     let mut starts = [0u16; Graph::STARTS];
     let mut entries = [0u16; Graph::ENTRIES];
     let sized = colors.len() == ends.len() / 2;
-    match check_simple(n, ends, sized, &mut starts, &mut entries) {
-        Err(refusal) => Err(refusal),
-        // Nothing is stored: an empty part of a slice at hand.
-        Ok(graph) => color_from(n, ends, &starts, &entries, &ends[..0], colors),
-    }
+    check_simple(n, ends, sized, &mut starts, &mut entries)?;
+    color_from(n, ends, &starts, &entries, &[], colors)
 }
 
 // The last edge gets a colour too, by the step that it has in the run over all edges, from the stored colours of the others. The step may
@@ -95,8 +91,6 @@ pub fn misra_gries_add_edge(
     let mut starts = [0u16; Graph::STARTS];
     let mut entries = [0u16; Graph::ENTRIES];
     let sized = sizes_fit(ends.len() / 2, stored.len(), colors.len());
-    match check_simple(n, ends, sized, &mut starts, &mut entries) {
-        Err(refusal) => Err(refusal),
-        Ok(graph) => color_from(n, ends, &starts, &entries, stored, colors),
-    }
+    check_simple(n, ends, sized, &mut starts, &mut entries)?;
+    color_from(n, ends, &starts, &entries, stored, colors)
 }

@@ -4,7 +4,8 @@ ghost use Rattle.graph.specs.Edges.{edge_count};
 ghost use Rattle.graph.specs.Color.{days_of};
 ghost use Rattle.misra_gries.specs.Step.{Running, held_of, steps_from, tally_days};
 
-use crate::tally::{Tally, step_by_value};
+use crate::steps::step;
+use crate::tally::Tally;
 use days::days_of;
 use graph::EdgeIndex;
 
@@ -24,34 +25,13 @@ pub(crate) fn run(
     ensures running { Running n ends.now starts.now entries.now work.new table.new marks.new result (edge_count ends.now) }
     ensures held { held_of work.new result ≡ steps_from ends.now (edge_count ends.now) n (held_of work.old tally) from (edge_count ends.now - from) }
 {
-    let m = ends.len() / 2;
     let mut so_far = tally;
-    let mut k = from;
-    while k < m {
-        so_far = step_by_value(
-            so_far,
-            n,
-            ends,
-            starts,
-            entries,
-            work,
-            table,
-            marks,
-            EdgeIndex(k as u16),
-        );
-        k += 1;
+    for k in from..ends.len() / 2 {
+        let edge = EdgeIndex(k as u16);
+        let color = step(n, ends, starts, entries, work, table, marks, edge);
+        so_far = so_far.noted(color);
     }
     so_far
-}
-
-// Days from the tally, of colours without a gap: the list is not gone through again.
-pub(crate) fn days_of_tally(tally: Tally) -> usize
-    ensures answer { result ≡ tally_days tally }
-{
-    if tally.edges == 0 {
-        return 0;
-    }
-    tally.greatest as usize + 1
 }
 
 // Days after a run. From no stored colours it leaves no gap, and the tally tells them; stored colours may have gaps, so the list is counted.
@@ -59,7 +39,8 @@ pub(crate) fn days_after(tally: Tally, stored: usize, colors: &[u16]) -> usize
     ensures answer { result ≡ cond (eqb stored 0) (tally_days tally) (days_of colors.now) }
 {
     if stored == 0 {
-        return days_of_tally(tally);
+        tally.days()
+    } else {
+        days_of(colors)
     }
-    days_of(colors)
 }

@@ -1,5 +1,7 @@
 // The step of one edge: its fan, the path exchanged, the fan rotated.
-ghost use Rattle.std.specs.Prelude.{length};
+ghost use Rattle.std.specs.Prelude.{◌≡◌, ◌≤◌, length};
+ghost use Rattle.edge_table.specs.EdgeTable.{exchanged_colors};
+ghost use Rattle.repaint.specs.Repaint.{state, repainted};
 ghost use Rattle.misra_gries.specs.Step.{Ready, Stepped, Exchanging, Exchanged, Rotating, Rotated, Turning, Turned};
 
 use crate::grow::grow;
@@ -10,55 +12,28 @@ use graph::{Color, EdgeIndex, Graph, NodeIndex};
 use recolor::{follow, shift_colors, swap_colors};
 use repaint::repaint;
 
-// The path from the node along d, c, d and so on exchanges c and d; the answer is the number of its edges.
+// Short arrays have so many places: they are cleared sooner than those with a place for each node.
+const FEW: usize = 32;
+
+// The path's edges exchange c and d. The colours are written to the lent slice first.
 fn exchange_edges(
-    n: usize,
     ends: &[u16],
     work: &mut [u16],
     table: &mut [u16],
-    node: NodeIndex,
+    path: &[u16],
     c: Color,
     d: Color,
-) -> usize
-    requires { Exchanging ends.now n work.old table.old node.0 c.0 d.0 }
-    ensures exchanged { Exchanged n ends.now work.old node.0 c.0 d.0 result work.new table.new }
+    colors: &mut [u16],
+)
+    requires { length path.now ≤ length colors.old }
+    ensures exchanged { state work.new table.new ≡ repainted ends.now (state work.old table.old) path.now (exchanged_colors work.old c.0 d.0 path.now) }
 {
-    let mut edges = [0u16; Graph::MAX_NODES];
-    let mut colors = [0u16; Graph::MAX_NODES];
-    let len = follow(ends, table, node, d, c, &mut edges[..n]);
-    swap_colors(work, &edges[..len], c, d, &mut colors);
-    repaint(ends, work, table, &edges[..len], &colors[..len]);
-    len
+    swap_colors(work, path, c, d, colors);
+    repaint(ends, work, table, path, &colors[..path.len()]);
 }
 
-// The same. A path of fewer than 32 edges takes short arrays, which are cleared sooner.
-fn exchange_few(
-    n: usize,
-    ends: &[u16],
-    work: &mut [u16],
-    table: &mut [u16],
-    node: NodeIndex,
-    c: Color,
-    d: Color,
-) -> usize
-    requires { Exchanging ends.now n work.old table.old node.0 c.0 d.0 }
-    ensures exchanged { Exchanged n ends.now work.old node.0 c.0 d.0 result work.new table.new }
-{
-    if n < 32 {
-        return exchange_edges(n, ends, work, table, node, c, d);
-    }
-    let mut edges = [0u16; 32];
-    let len = follow(ends, table, node, d, c, &mut edges);
-    if len == 32 {
-        return exchange_edges(n, ends, work, table, node, c, d);
-    }
-    let mut colors = [0u16; 32];
-    swap_colors(work, &edges[..len], c, d, &mut colors);
-    repaint(ends, work, table, &edges[..len], &colors[..len]);
-    len
-}
-
-// The same. Where d is free at the node there is no path, and no array has to be cleared for it.
+// The path from the node along d, c, d and so on exchanges c and d; the answer is the number of its edges. Where d is free at the node there
+// is no path, and no array has to be cleared for it; a path that ends before a short array does takes short ones.
 fn exchange_path(
     n: usize,
     ends: &[u16],
@@ -74,7 +49,26 @@ fn exchange_path(
     if is_free(table, node, d) {
         return 0;
     }
-    exchange_few(n, ends, work, table, node, c, d)
+    if n >= FEW {
+        let mut edges = [0u16; FEW];
+        let len = follow(ends, table, node, d, c, &mut edges);
+        if len < FEW {
+            exchange_edges(ends, work, table, &edges[..len], c, d, &mut [0; FEW]);
+            return len;
+        }
+    }
+    let mut edges = [0u16; Graph::MAX_NODES];
+    let len = follow(ends, table, node, d, c, &mut edges[..n]);
+    exchange_edges(
+        ends,
+        work,
+        table,
+        &edges[..len],
+        c,
+        d,
+        &mut [0; Graph::MAX_NODES],
+    );
+    len
 }
 
 // Each of the fan's places takes the colour of the next, the last takes d. The colours are written to the lent slice first.
@@ -94,7 +88,7 @@ fn rotate_places(
     repaint(ends, work, table, fan, &colors[..len]);
 }
 
-// The same. Where the fan has one place, only that takes d, and no array has to be cleared for it; up to 32 places take a short one.
+// The same. Where the fan has one place, only that takes d, and no array has to be cleared for it; a few places take a short one.
 fn rotate_fan(ends: &[u16], work: &mut [u16], table: &mut [u16], fan: &[u16], d: Color)
     requires { Rotating ends.now work.old table.old fan.now d.0 512 }
     ensures rotated { Rotated ends.now work.old fan.now d.0 work.new table.new }
@@ -104,8 +98,8 @@ fn rotate_fan(ends: &[u16], work: &mut [u16], table: &mut [u16], fan: &[u16], d:
         repaint(ends, work, table, fan, &colors);
         return;
     }
-    if fan.len() <= 32 {
-        let mut colors = [0u16; 32];
+    if fan.len() <= FEW {
+        let mut colors = [0u16; FEW];
         rotate_places(ends, work, table, fan, d, &mut colors);
         return;
     }

@@ -4,6 +4,3 @@ use Rattle.misra_gries.proofs.steps.rotate_fan.Goals as goal
 
 pub returns-then-fan-eq1 : goal.returns-then-fan-eq1
 returns-then-fan-eq1 c = record { rotated = fan_of_one _ _ _ _ _ _ c.requires c.if-fan-eq1.true _ _ c.repaint.ensures.state }
-
-pub rotate_places-requires : goal.rotate_places-requires
-rotate_places-requires c = record { tabled = c.requires.tabled; allowed = c.requires.allowed; some = c.requires.some; fits = c.if-fan-le32.true }
