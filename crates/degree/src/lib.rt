@@ -1,179 +1,95 @@
 // Greedy colouring by falling degree, of a graph's nodes or of its edges: the strategy over the graph or over its line graph, which is
-// never stored. Once the table is made, the number of nodes is passed on for the contracts alone, which speak of the definition's neighbours.
+// never stored.
 #![tactic(auto)]
 
-ghost use Rattle.std.specs.Prelude.{◌≡◌, ℕ, ◌≤◌, ◌<◌, length, get_or};
+ghost use Rattle.std.specs.Prelude.{◌≡◌, ℕ, ◌≤◌, ◌<◌, length, get_or, replicate};
 ghost use Rattle.graph.specs.Report.{report_of};
-ghost use Rattle.graph.specs.Check.{Passed};
 ghost use Rattle.graph.specs.Color.{days_of};
 ghost use Rattle.greedy.specs.Degree.{color_in_order, degree_colors};
-ghost use Rattle.items.specs.declared.Kind.TheVariants.{Nodes, Edges};
-ghost use Rattle.items.specs.Items.{items_of, neighbors_of, greedy_of, Tabled};
+ghost use Rattle.items.specs.Items.{items_of, neighbors_of, greedy_of};
 ghost use Rattle.degree.specs.Color.{Waiting, OrderRoom};
 
 use days::days_of;
-use graph::{Graph, NodeIndex, Refusal, copy_colors};
-use incidence::incidence_front;
-use items::{Kind, check_items, free_color, neighbor_count};
+use graph::{CheckedGraph, Graph, NodeIndex, Refusal, copy_colors};
+use incidence::incidence_table;
+use items::{Items, Kind, check_items};
 use order::falling_order;
 
 mod order;
 
-// How many neighbours each of the first `items` items has.
-fn note_degrees(
-    kind: Kind,
-    n: usize,
-    ends: &[u16],
-    starts: &[u16],
-    entries: &[u16],
-    items: usize,
-    degrees: &mut [u16],
-)
-    requires tabled { Tabled kind n ends.now starts.now entries.now items }
-    requires in_bounds { items ≤ length degrees.old }
-    ensures degrees { (v : ℕ) → v < items → get_or degrees.new v 0 ≡ length (neighbors_of kind n ends.now v) }
+// How many neighbours each item has.
+fn note_degrees(items: Items<'_>, degrees: &mut [u16])
+    requires room { items.count ≤ length degrees.old }
+    ensures degrees { let items = items.entry in
+        (v : ℕ) → v < items.count → get_or degrees.new v 0 ≡ length (neighbors_of items.kind items.table.nodes items.table.ends.now v) }
 {
-    let mut v = 0;
-    while v < items {
-        degrees[v] = neighbor_count(kind, ends, starts, entries, NodeIndex(v as u16)) as u16;
-        v += 1;
+    for item in 0..items.count {
+        degrees[item] = items.neighbor_count(NodeIndex(item as u16)) as u16;
     }
 }
 
 // Each item of the order takes the smallest colour that no neighbour has.
-fn color_each(
-    kind: Kind,
-    n: usize,
-    ends: &[u16],
-    starts: &[u16],
-    entries: &[u16],
-    order: &[u16],
-    colors: &mut [u16],
-)
-    requires tabled { Tabled kind n ends.now starts.now entries.now (length colors.old) }
+fn color_in_order(items: Items<'_>, order: &[u16], colors: &mut [u16])
+    requires size { length colors.old ≡ items.count }
     requires waiting { Waiting order.now colors.old }
-    ensures colors { let ends = ends.entry.now in let order = order.entry.now in let colors₀ = colors.old in
-        colors.new ≡ color_in_order (neighbors_of kind n ends) order colors₀ }
+    ensures colors { let items = items.entry in let order = order.entry.now in let colors₀ = colors.old in
+        colors.new ≡ color_in_order (neighbors_of items.kind items.table.nodes items.table.ends.now) order colors₀ }
 {
-    let mut i = 0;
-    while i < order.len() {
-        let item = NodeIndex(order[i]);
-        let color = free_color(kind, ends, starts, entries, colors, item);
-        colors[item.0 as usize] = color.0;
-        i += 1;
+    for &item in order {
+        colors[item as usize] = items.free_color(colors, NodeIndex(item)).0;
     }
 }
 
-// The same, with the kind a constant in each arm: so the compiler makes a loop for each, which leaves out what the other kind needs.
-fn color_in_order(
+// A graph that passed the checks, with a preset and a colour for each item, at most ITEMS of them with fewer than COUNTS neighbours each. The
+// answer is how many days the colours take.
+fn color_checked<const ITEMS: usize, const COUNTS: usize>(
     kind: Kind,
-    n: usize,
-    ends: &[u16],
-    starts: &[u16],
-    entries: &[u16],
-    order: &[u16],
-    colors: &mut [u16],
-)
-    requires tabled { Tabled kind n ends.now starts.now entries.now (length colors.old) }
-    requires waiting { Waiting order.now colors.old }
-    ensures colors { let ends = ends.entry.now in let order = order.entry.now in let colors₀ = colors.old in
-        colors.new ≡ color_in_order (neighbors_of kind n ends) order colors₀ }
-{
-    match kind {
-        Kind::Nodes => {
-            color_each(Kind::Nodes, n, ends, starts, entries, order, colors);
-        }
-        Kind::Edges => {
-            color_each(Kind::Edges, n, ends, starts, entries, order, colors);
-        }
-    }
-}
-
-// A graph that passed the checks, a preset and a colour for each item, and lists to work with. The answer is how many days the colours take.
-fn color_checked(
-    kind: Kind,
-    n: usize,
-    ends: &[u16],
+    graph: CheckedGraph<'_>,
     presets: &[u16],
     colors: &mut [u16],
-    degrees: &mut [u16],
-    counts: &mut [u16],
-    order: &mut [u16],
 ) -> usize
-    requires passed { Passed n ends.now }
-    requires presets_len { (length presets.now ≡ items_of kind n ends.now) × (length colors.old ≡ items_of kind n ends.now) }
-    requires order_room { OrderRoom kind n ends.now degrees.old counts.old order.old }
+    requires presets_len { (length presets.now ≡ items_of kind graph.nodes graph.ends.now) × (length colors.old ≡ items_of kind graph.nodes graph.ends.now) }
+    requires limits { (ITEMS ≤ 4096) × (COUNTS ≤ 8191) }
+    requires order_room { OrderRoom kind graph.nodes graph.ends.now (replicate ITEMS 0) (replicate COUNTS 0) (replicate ITEMS 0) }
     ensures answer { result ≡ days_of colors.new }
-    ensures colors { let ends = ends.entry.now in let presets = presets.entry.now in
-        colors.new ≡ degree_colors (neighbors_of kind n ends) (items_of kind n ends) presets }
+    ensures colors { let graph = graph.entry in let presets = presets.entry.now in
+        colors.new ≡ degree_colors (neighbors_of kind graph.nodes graph.ends.now) (items_of kind graph.nodes graph.ends.now) presets }
 {
     let mut starts = [0u16; Graph::STARTS];
     let mut entries = [0u16; Graph::ENTRIES];
-    incidence_front(n, ends, &mut starts, &mut entries);
-    note_degrees(kind, n, ends, &starts, &entries, presets.len(), degrees);
-    let count = falling_order(degrees, presets, counts, order);
+    let table = incidence_table(graph, &mut starts, &mut entries);
+    let items = Items::new(kind, table);
+    let mut degrees = [0u16; ITEMS];
+    note_degrees(items, &mut degrees);
+    let mut counts = [0u16; COUNTS];
+    let mut order = [0u16; ITEMS];
+    let count = falling_order(&degrees, presets, &mut counts, &mut order);
     copy_colors(presets, colors);
-    color_in_order(kind, n, ends, &starts, &entries, &order[..count], colors);
+    color_in_order(items, &order[..count], colors);
     days_of(colors)
 }
 
-// The nodes, with lists of their size: a node has at most 4,096 neighbours.
-fn color_checked_nodes(n: usize, ends: &[u16], presets: &[u16], colors: &mut [u16]) -> usize
-    requires passed { Passed n ends.now }
-    requires presets_len { (length presets.now ≡ items_of Nodes n ends.now) × (length colors.old ≡ items_of Nodes n ends.now) }
+// The items of this kind: a node has at most 4,096 neighbours, an edge at most 4,095 at each end. With the kind a constant in each arm the
+// compiler makes a function for each, which leaves out what the other kind needs.
+fn color_items(kind: Kind, graph: CheckedGraph<'_>, presets: &[u16], colors: &mut [u16]) -> usize
+    requires presets_len { (length presets.now ≡ items_of kind graph.nodes graph.ends.now) × (length colors.old ≡ items_of kind graph.nodes graph.ends.now) }
     ensures answer { result ≡ days_of colors.new }
-    ensures colors { let ends = ends.entry.now in let presets = presets.entry.now in
-        colors.new ≡ degree_colors (neighbors_of Nodes n ends) (items_of Nodes n ends) presets }
-{
-    let mut degrees = [0u16; Graph::MAX_NODES];
-    let mut counts = [0u16; 4097];
-    let mut order = [0u16; Graph::MAX_NODES];
-    color_checked(
-        Kind::Nodes,
-        n,
-        ends,
-        presets,
-        colors,
-        &mut degrees,
-        &mut counts,
-        &mut order,
-    )
-}
-
-// The edges: an edge has at most 4,095 neighbours at each end.
-fn color_checked_edges(n: usize, ends: &[u16], presets: &[u16], colors: &mut [u16]) -> usize
-    requires passed { Passed n ends.now }
-    requires presets_len { (length presets.now ≡ items_of Edges n ends.now) × (length colors.old ≡ items_of Edges n ends.now) }
-    ensures answer { result ≡ days_of colors.new }
-    ensures colors { let ends = ends.entry.now in let presets = presets.entry.now in
-        colors.new ≡ degree_colors (neighbors_of Edges n ends) (items_of Edges n ends) presets }
-{
-    let mut degrees = [0u16; Graph::MAX_EDGES];
-    let mut counts = [0u16; 8191];
-    let mut order = [0u16; Graph::MAX_EDGES];
-    color_checked(
-        Kind::Edges,
-        n,
-        ends,
-        presets,
-        colors,
-        &mut degrees,
-        &mut counts,
-        &mut order,
-    )
-}
-
-// The items of this kind, with the lists of its size.
-fn color_items(kind: Kind, n: usize, ends: &[u16], presets: &[u16], colors: &mut [u16]) -> usize
-    requires passed { Passed n ends.now }
-    requires presets_len { (length presets.now ≡ items_of kind n ends.now) × (length colors.old ≡ items_of kind n ends.now) }
-    ensures answer { result ≡ days_of colors.new }
-    ensures colors { let ends = ends.entry.now in let presets = presets.entry.now in
-        colors.new ≡ degree_colors (neighbors_of kind n ends) (items_of kind n ends) presets }
+    ensures colors { let graph = graph.entry in let presets = presets.entry.now in
+        colors.new ≡ degree_colors (neighbors_of kind graph.nodes graph.ends.now) (items_of kind graph.nodes graph.ends.now) presets }
 {
     match kind {
-        Kind::Nodes => color_checked_nodes(n, ends, presets, colors),
-        Kind::Edges => color_checked_edges(n, ends, presets, colors),
+        Kind::Nodes => color_checked::<{ Graph::MAX_NODES }, 4097>(
+            Kind::Nodes,
+            graph,
+            presets,
+            colors,
+        ),
+        Kind::Edges => color_checked::<{ Graph::MAX_EDGES }, 8191>(
+            Kind::Edges,
+            graph,
+            presets,
+            colors,
+        ),
     }
 }
 
@@ -192,5 +108,6 @@ pub fn color(
         colors.new ≡ (greedy_of kind degree_colors n ends presets colors₀).colors }
 {
     check_items(kind, n, ends, presets.len(), colors.len())?;
-    Ok(color_items(kind, n, ends, presets, colors))
+    let graph = CheckedGraph { nodes: n, ends };
+    Ok(color_items(kind, graph, presets, colors))
 }

@@ -1,15 +1,16 @@
--- `color_in_order` meets its contract: each arm's kind is the one met.
-use Rattle.degree.proofs.ColorLaws.{kind_tabled, kind_turns}
+use mathlib.Core.Path.{◌∙◌}
+use Rattle.items.proofs.TableLaws.{tabled_as}
+use Rattle.degree.proofs.ColorLaws.{waiting_inside, waiting_next, item_turn, turns_done}
 use Rattle.degree.proofs.color_in_order.Goals as goal
 
-pub color_each-requires : goal.color_each-requires
-color_each-requires c = record { tabled = kind_tabled _ _ c.in-Nodes.is _ _ _ _ _ c.requires.tabled; waiting = c.requires.waiting }
+pub bounds-colors-item : goal.bounds-colors-item
+bounds-colors-item c = waiting_inside _ _ _ c.loop-item.invariant.0 c.loop-item-test.true
 
-pub color_each-requires-in-Edges : goal.color_each-requires-in-Edges
-color_each-requires-in-Edges c = record { tabled = kind_tabled _ _ c.in-Edges.is _ _ _ _ _ c.requires.tabled; waiting = c.requires.waiting }
+pub loop-item-preserved : goal.loop-item-preserved
+loop-item-preserved c =
+    let l = c.loop-item in
+    let t = c.loop-item-test.true in
+    (waiting_next _ _ _ l.invariant.0 t _, item_turn _ _ _ _ _ _ _ _ _ (tabled_as c.args.items _ (l.auto.colors ∙ c.requires.size)) l.invariant.0 l.invariant.1 t c.free_color.ensures.answer)
 
-pub returns-in-Nodes : goal.returns-in-Nodes
-returns-in-Nodes c = record { colors = kind_turns _ _ c.in-Nodes.is _ _ _ _ _ c.color_each.ensures.colors }
-
-pub returns-in-Edges : goal.returns-in-Edges
-returns-in-Edges c = record { colors = kind_turns _ _ c.in-Edges.is _ _ _ _ _ c.color_each-in-Edges.ensures.colors }
+pub returns : goal.returns
+returns c = record { colors = turns_done _ _ _ _ c.loop-item.invariant.1 c.loop-item-test.false }
