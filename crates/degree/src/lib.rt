@@ -49,7 +49,7 @@ fn color_checked<const ITEMS: usize, const COUNTS: usize>(
     colors: &mut [u16],
 ) -> usize
     requires presets_len { (length presets.now ≡ items_of kind graph.nodes graph.ends.now) × (length colors.old ≡ items_of kind graph.nodes graph.ends.now) }
-    requires limits { (ITEMS ≤ 4096) × (COUNTS ≤ 8191) }
+    requires limits { (ITEMS ≤ 4096) × (COUNTS ≤ 8192) }
     requires order_room { OrderRoom kind graph.nodes graph.ends.now (replicate ITEMS 0) (replicate COUNTS 0) (replicate ITEMS 0) }
     ensures answer { result ≡ days_of colors.new }
     ensures colors { let graph = graph.entry in let presets = presets.entry.now in
@@ -70,7 +70,7 @@ fn color_checked<const ITEMS: usize, const COUNTS: usize>(
 }
 
 // The items of this kind: a node has at most 4,096 neighbours, an edge at most 4,095 at each end. With the kind a constant in each arm the
-// compiler makes a function for each, which leaves out what the other kind needs.
+// compiler makes a function for each, which leaves out what the other kind needs; the counts are a multiple of 4, since it takes four in a row.
 fn color_items(kind: Kind, graph: CheckedGraph<'_>, presets: &[u16], colors: &mut [u16]) -> usize
     requires presets_len { (length presets.now ≡ items_of kind graph.nodes graph.ends.now) × (length colors.old ≡ items_of kind graph.nodes graph.ends.now) }
     ensures answer { result ≡ days_of colors.new }
@@ -78,13 +78,13 @@ fn color_items(kind: Kind, graph: CheckedGraph<'_>, presets: &[u16], colors: &mu
         colors.new ≡ degree_colors (neighbors_of kind graph.nodes graph.ends.now) (items_of kind graph.nodes graph.ends.now) presets }
 {
     match kind {
-        Kind::Nodes => color_checked::<{ Graph::MAX_NODES }, 4097>(
+        Kind::Nodes => color_checked::<{ Graph::MAX_NODES }, 4100>(
             Kind::Nodes,
             graph,
             presets,
             colors,
         ),
-        Kind::Edges => color_checked::<{ Graph::MAX_EDGES }, 8191>(
+        Kind::Edges => color_checked::<{ Graph::MAX_EDGES }, 8192>(
             Kind::Edges,
             graph,
             presets,
