@@ -3,210 +3,104 @@
 // of a test program; the functions promise nothing but to end.
 #![tactic(auto)]
 
-use crate::report::{
-    put_coloring, put_file, put_incidence, put_leading_part, put_line_list, put_walk, put_written,
-};
+use crate::report::{put_count, put_file, put_leading_part, put_walk};
 use days::{fewer_days, fewer_days_part};
 use edge_walk::edges_at;
 use graph::NodeIndex;
-use replay_input::{Line, Name, narrow, narrow_byte};
-use replay_output::{
-    cut, cut_after, cut_bytes, lend, lend_bytes, put, put_all, put_bytes, put_list, put_part,
-};
+use replay_input::{Case, Lent, Line, Name};
+use replay_output::{Number, Output, front, lend};
 
 mod report;
 
 pub use report::put_colored;
 
-fn call_incidence(
-    rt: &impl Print,
-    text: &mut [u8],
-    waiting: usize,
-    n: usize,
-    ends: &[u16],
-    line: Line,
-    list: &mut [u16],
-    entries: &mut [u16],
-) -> usize {
-    let s = cut(line.first, list);
-    let e = cut(line.second, entries);
-    let starts = &mut list[..s];
-    let entries = &mut entries[..e];
-    lend(starts);
-    lend(entries);
-    let answer = incidence::incidence(n, ends, starts, entries);
-    let end = put_incidence(rt, text, waiting, answer);
-    let end = put_list(rt, text, end, starts);
-    let end = put(rt, text, end, b';');
-    let end = put_list(rt, text, end, entries);
-    put(rt, text, end, b'\n')
+fn call_incidence(output: &mut Output<impl Print>, case: Case, line: Line, lent: &mut Lent) {
+    let starts = lend(lent.list, line.first);
+    let entries = lend(lent.entries, line.second);
+    let answer = incidence::incidence(case.nodes, case.ends, starts, entries);
+    put_count(output, line.name, "total", answer);
+    output.put_list(starts);
+    output.put(';');
+    output.put_list(entries);
 }
 
 // The table is the line's own, and nothing is lent.
-fn call_edges_at(
-    rt: &impl Print,
-    text: &mut [u8],
-    waiting: usize,
-    line: Line,
-    list: &[u16],
-    entries: &[u16],
-) -> usize {
-    let s = cut(line.second, list);
-    let e = cut(line.third, entries);
-    let edges = edges_at(&list[..s], &entries[..e], NodeIndex(narrow(line.first)));
-    let end = put_all(rt, text, waiting, b"edges_at:");
-    let end = put_part(rt, text, end, edges);
-    put(rt, text, end, b'\n')
+fn call_edges_at(output: &mut Output<impl Print>, line: Line, lent: &Lent) {
+    let starts = front(lent.list, line.second);
+    let entries = front(lent.entries, line.third);
+    let edges = edges_at(starts, entries, NodeIndex(u16::narrowed(line.first)));
+    output.put("edges_at:");
+    output.put_part(edges);
 }
 
 // A walk over one node's edges in the graph's own table. A graph that is refused leaves the slices as lent, which give no edges.
-fn call_edge_walk(
-    rt: &impl Print,
-    text: &mut [u8],
-    waiting: usize,
-    n: usize,
-    ends: &[u16],
-    line: Line,
-    list: &mut [u16],
-    entries: &mut [u16],
-) -> usize {
-    let s = cut_after(n, list);
-    let e = cut(ends.len(), entries);
-    let starts = &mut list[..s];
-    let entries = &mut entries[..e];
-    lend(starts);
-    lend(entries);
-    let _ = incidence::incidence(n, ends, starts, entries);
-    let end = put_all(rt, text, waiting, b"edge_walk:");
-    let node = NodeIndex(narrow(line.first));
-    put_walk(rt, text, end, starts, entries, node, line.second)
+fn call_edge_walk(output: &mut Output<impl Print>, case: Case, line: Line, lent: &mut Lent) {
+    let starts = lend(lent.list, case.nodes.saturating_add(1));
+    let entries = lend(lent.entries, case.ends.len());
+    let _ = incidence::incidence(case.nodes, case.ends, starts, entries);
+    output.put("edge_walk:");
+    let node = NodeIndex(u16::narrowed(line.first));
+    put_walk(output, starts, entries, node, line.second);
 }
 
-fn call_two_color(
-    rt: &impl Print,
-    text: &mut [u8],
-    waiting: usize,
-    n: usize,
-    ends: &[u16],
-    line: Line,
-    bytes: &mut [u8],
-) -> usize {
-    let c = cut_bytes(line.first, bytes);
-    let colors = &mut bytes[..c];
-    lend_bytes(colors);
-    let answer = two_color::two_color(n, ends, colors);
-    let end = put_coloring(rt, text, waiting, b"two_color", answer);
-    let end = put_bytes(rt, text, end, colors);
-    put(rt, text, end, b'\n')
+fn call_two_color(output: &mut Output<impl Print>, case: Case, line: Line, lent: &mut Lent) {
+    let colors = lend(lent.bytes, line.first);
+    let answer = two_color::two_color(case.nodes, case.ends, colors);
+    put_colored(output, line.name, answer, colors);
 }
 
-fn call_line_graph(
-    rt: &impl Print,
-    text: &mut [u8],
-    waiting: usize,
-    n: usize,
-    ends: &[u16],
-    line: Line,
-    list: &mut [u16],
-) -> usize {
-    let c = cut(line.first, list);
-    let pairs = &mut list[..c];
-    lend(pairs);
-    let answer = line_graph::line_graph(n, ends, pairs);
-    let end = put_line_list(rt, text, waiting, answer);
-    let end = put_list(rt, text, end, pairs);
-    put(rt, text, end, b'\n')
+fn call_line_graph(output: &mut Output<impl Print>, case: Case, line: Line, lent: &mut Lent) {
+    let pairs = lend(lent.list, line.first);
+    let answer = line_graph::line_graph(case.nodes, case.ends, pairs);
+    put_count(output, line.name, "pairs", answer);
+    output.put_list(pairs);
 }
 
-// Both lists are the line's own, under one lifetime since either may be handed out. One call says which list and how long the part is, the other
-// hands out its numbers.
-fn call_fewer_days<'a>(
-    rt: &impl Print,
-    text: &mut [u8],
-    waiting: usize,
-    line: Line,
-    list: &'a [u16],
-    entries: &'a [u16],
-) -> usize {
-    let f = cut(line.second, list);
-    let s = cut(line.third, entries);
-    let first = &list[..f];
-    let second = &entries[..s];
-    let part = fewer_days_part(first, second, line.first);
-    let end = put_leading_part(rt, text, waiting, part);
-    let end = put_part(rt, text, end, fewer_days(first, second, line.first));
-    put(rt, text, end, b'\n')
+// Both lists are the line's own. One call says which list and how long the part is, the other hands out its numbers.
+fn call_fewer_days(output: &mut Output<impl Print>, line: Line, lent: &Lent) {
+    let first = front(lent.list, line.second);
+    let second = front(lent.entries, line.third);
+    put_leading_part(output, fewer_days_part(first, second, line.first));
+    output.put_part(fewer_days(first, second, line.first));
 }
 
-fn call_read_file(
-    rt: &impl Print,
-    text: &mut [u8],
-    waiting: usize,
-    file: &[u8],
-    line: Line,
-    list: &mut [u16],
-    entries: &mut [u16],
-) -> usize {
-    let e = cut(line.first, list);
-    let c = cut(line.second, entries);
-    let ends = &mut list[..e];
-    let colors = &mut entries[..c];
-    lend(ends);
-    lend(colors);
-    let answer = graph_file::read_graph_file(file, ends, colors);
-    let end = put_file(rt, text, waiting, answer);
-    let end = put_list(rt, text, end, ends);
-    let end = put(rt, text, end, b';');
-    let end = put_list(rt, text, end, colors);
-    put(rt, text, end, b'\n')
+fn call_read_file(output: &mut Output<impl Print>, case: Case, line: Line, lent: &mut Lent) {
+    let ends = lend(lent.list, line.first);
+    let colors = lend(lent.entries, line.second);
+    let answer = graph_file::read_graph_file(case.file, ends, colors);
+    put_file(output, answer);
+    output.put_list(ends);
+    output.put(';');
+    output.put_list(colors);
 }
 
 // The colours are those of the presets line.
-fn call_write_file(
-    rt: &impl Print,
-    text: &mut [u8],
-    waiting: usize,
-    n: usize,
-    ends: &[u16],
-    colors: &[u16],
-    line: Line,
-    bytes: &mut [u8],
-) -> usize {
-    let c = cut_bytes(line.third, bytes);
-    let output = &mut bytes[..c];
-    lend_bytes(output);
-    let tags = narrow_byte(line.first);
-    let method = narrow_byte(line.second);
-    let answer = write_graph_file::write_graph_file(n, ends, colors, tags, method, output);
-    let end = put_written(rt, text, waiting, answer);
-    let end = put_bytes(rt, text, end, output);
-    put(rt, text, end, b'\n')
+fn call_write_file(output: &mut Output<impl Print>, case: Case, line: Line, lent: &mut Lent) {
+    let written = lend(lent.bytes, line.third);
+    let answer = write_graph_file::write_graph_file(
+        case.nodes,
+        case.ends,
+        case.presets,
+        u8::narrowed(line.first),
+        u8::narrowed(line.second),
+        written,
+    );
+    put_count(output, line.name, "length", answer);
+    output.put_list(written);
 }
 
 // The line's call; a line that is none of these prints nothing.
-pub fn call(
-    rt: &impl Print,
-    text: &mut [u8],
-    waiting: usize,
-    n: usize,
-    ends: &[u16],
-    presets: &[u16],
-    line: Line,
-    list: &mut [u16],
-    entries: &mut [u16],
-    bytes: &mut [u8],
-    file: &[u8],
-) -> usize {
-    let name = line.name;
-    match name {
-        Name::Incidence => call_incidence(rt, text, waiting, n, ends, line, list, entries),
-        Name::EdgesAt => call_edges_at(rt, text, waiting, line, list, entries),
-        Name::EdgeWalk => call_edge_walk(rt, text, waiting, n, ends, line, list, entries),
-        Name::TwoColor => call_two_color(rt, text, waiting, n, ends, line, bytes),
-        Name::LineGraph => call_line_graph(rt, text, waiting, n, ends, line, list),
-        Name::FewerDays => call_fewer_days(rt, text, waiting, line, list, entries),
-        Name::ReadGraphFile => call_read_file(rt, text, waiting, file, line, list, entries),
-        Name::WriteGraphFile => call_write_file(rt, text, waiting, n, ends, presets, line, bytes),
-        _ => waiting,
+pub fn call(output: &mut Output<impl Print>, case: Case, line: Line, lent: &mut Lent) {
+    match line.name {
+        Name::Incidence => call_incidence(output, case, line, lent),
+        Name::EdgesAt => call_edges_at(output, line, lent),
+        Name::EdgeWalk => call_edge_walk(output, case, line, lent),
+        Name::TwoColor => call_two_color(output, case, line, lent),
+        Name::LineGraph => call_line_graph(output, case, line, lent),
+        Name::FewerDays => call_fewer_days(output, line, lent),
+        Name::ReadGraphFile => call_read_file(output, case, line, lent),
+        Name::WriteGraphFile => call_write_file(output, case, line, lent),
+        _ => return,
     }
+    output.put('\n');
 }

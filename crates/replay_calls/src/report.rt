@@ -3,163 +3,70 @@ use days::LeadingPart;
 use edge_walk::edge_at;
 use file_fields::FileSummary;
 use graph::{NodeIndex, Refusal};
-use replay_output::{put, put_all, put_list, put_number, put_report};
+use replay_input::Name;
+use replay_output::{Number, Output};
 
-fn put_refused(
-    rt: &impl Print,
-    text: &mut [u8],
-    waiting: usize,
-    name: &[u8],
-    refusal: Refusal,
-) -> usize {
-    put_report(rt, text, waiting, name, b"refused", refusal.number() as u64)
-}
-
-pub(crate) fn put_coloring(
-    rt: &impl Print,
-    text: &mut [u8],
-    waiting: usize,
-    name: &[u8],
+// What a call counted, or why it refused.
+pub(crate) fn put_count(
+    output: &mut Output<impl Print>,
+    name: Name,
+    word: &str,
     answer: Result<usize, Refusal>,
-) -> usize {
+) {
     match answer {
-        Ok(days) => put_report(rt, text, waiting, name, b"days", days as u64),
-        Err(refusal) => put_refused(rt, text, waiting, name, refusal),
+        Ok(count) => output.put_report(name, word, count),
+        Err(refusal) => output.put_report(name, "refused", refusal.number() as usize),
     }
 }
 
 // A colouring's report and its slice.
-pub fn put_colored(
-    rt: &impl Print,
-    text: &mut [u8],
-    waiting: usize,
-    name: &[u8],
+pub fn put_colored<T: Number>(
+    output: &mut Output<impl Print>,
+    name: Name,
     answer: Result<usize, Refusal>,
-    colors: &[u16],
-) -> usize {
-    let end = put_coloring(rt, text, waiting, name, answer);
-    let end = put_list(rt, text, end, colors);
-    put(rt, text, end, b'\n')
-}
-
-pub(crate) fn put_line_list(
-    rt: &impl Print,
-    text: &mut [u8],
-    waiting: usize,
-    answer: Result<usize, Refusal>,
-) -> usize {
-    match answer {
-        Ok(pairs) => put_report(rt, text, waiting, b"line_graph", b"pairs", pairs as u64),
-        Err(refusal) => put_refused(rt, text, waiting, b"line_graph", refusal),
-    }
-}
-
-pub(crate) fn put_incidence(
-    rt: &impl Print,
-    text: &mut [u8],
-    waiting: usize,
-    answer: Result<usize, Refusal>,
-) -> usize {
-    match answer {
-        Ok(total) => put_report(rt, text, waiting, b"incidence", b"total", total as u64),
-        Err(refusal) => put_refused(rt, text, waiting, b"incidence", refusal),
-    }
+    colors: &[T],
+) {
+    put_count(output, name, "days", answer);
+    output.put_list(colors);
 }
 
 // What a walk meets from this place on, each step at the place that the one before gave, and the word that says the end.
 pub(crate) fn put_walk(
-    rt: &impl Print,
-    text: &mut [u8],
-    waiting: usize,
+    output: &mut Output<impl Print>,
     starts: &[u16],
     entries: &[u16],
     node: NodeIndex,
     place: usize,
-) -> usize {
-    let mut end = waiting;
+) {
     let mut at = place;
-    loop {
-        match edge_at(starts, entries, node, at) {
-            None => {
-                end = put_all(rt, text, end, b" end");
-                return put(rt, text, end, b'\n');
-            }
-            Some((edge, next)) => {
-                end = put(rt, text, end, b' ');
-                end = put_number(rt, text, end, edge.0 as u64);
-                at = next;
-            }
-        }
+    while let Some((edge, next)) = edge_at(starts, entries, node, at) {
+        output.put(' ');
+        output.put(edge.0);
+        at = next;
     }
+    output.put(" end");
 }
 
 // Which of two lists, and how many of its first numbers.
-pub(crate) fn put_leading_part(
-    rt: &impl Print,
-    text: &mut [u8],
-    waiting: usize,
-    part: LeadingPart,
-) -> usize {
-    let length = part.length as u64;
-    if part.second {
-        return put_report(rt, text, waiting, b"fewer_days second", b"length", length);
-    }
-    put_report(rt, text, waiting, b"fewer_days first", b"length", length)
+pub(crate) fn put_leading_part(output: &mut Output<impl Print>, part: LeadingPart) {
+    let name = if part.second {
+        "fewer_days second"
+    } else {
+        "fewer_days first"
+    };
+    output.put_report(name, "length", part.length);
 }
 
-fn put_read(
-    rt: &impl Print,
-    text: &mut [u8],
-    waiting: usize,
-    nodes: u64,
-    edges: u64,
-    tags: u64,
-    method: u64,
-) -> usize {
-    let end = put_all(rt, text, waiting, b"read_graph_file nodes ");
-    let end = put_number(rt, text, end, nodes);
-    let end = put_all(rt, text, end, b" edges ");
-    let end = put_number(rt, text, end, edges);
-    let end = put_all(rt, text, end, b" tags ");
-    let end = put_number(rt, text, end, tags);
-    put_report(rt, text, end, b"", b"method", method)
-}
-
-pub(crate) fn put_file(
-    rt: &impl Print,
-    text: &mut [u8],
-    waiting: usize,
-    answer: Result<FileSummary, Refusal>,
-) -> usize {
+pub(crate) fn put_file(output: &mut Output<impl Print>, answer: Result<FileSummary, Refusal>) {
     match answer {
-        Ok(file) => put_read(
-            rt,
-            text,
-            waiting,
-            file.nodes as u64,
-            file.edges as u64,
-            file.tags as u64,
-            file.method_byte() as u64,
-        ),
-        Err(refusal) => put_refused(rt, text, waiting, b"read_graph_file", refusal),
-    }
-}
-
-pub(crate) fn put_written(
-    rt: &impl Print,
-    text: &mut [u8],
-    waiting: usize,
-    answer: Result<usize, Refusal>,
-) -> usize {
-    match answer {
-        Ok(length) => put_report(
-            rt,
-            text,
-            waiting,
-            b"write_graph_file",
-            b"length",
-            length as u64,
-        ),
-        Err(refusal) => put_refused(rt, text, waiting, b"write_graph_file", refusal),
+        Ok(file) => {
+            output.put("read_graph_file nodes ");
+            output.put(file.nodes);
+            output.put(" edges ");
+            output.put(file.edges);
+            output.put(" tags ");
+            output.put_report(file.tags, "method", file.method_byte() as usize);
+        }
+        Err(refusal) => output.put_report("read_graph_file", "refused", refusal.number() as usize),
     }
 }

@@ -2,12 +2,10 @@
 // contracts say what its own proofs need.
 #![tactic(auto)]
 
-mod cursor;
-mod input;
 mod lines;
 mod names;
+mod reader;
 
-pub use cursor::Cursor;
-pub use input::{narrow, narrow_byte};
-pub use lines::{Line, Sizes, read_line};
+pub use lines::{Case, Given, Lent, Line, Sizes};
 pub use names::Name;
+pub use reader::Reader;

@@ -1,10 +1,7 @@
 // The words that begin a line. A new call has its name here and its branch in replay_calls or replay.
-ghost use Rattle.std.specs.Prelude.{◌≡◌, true, ◌≤◌};
+use std::fmt;
 
-use crate::cursor::Cursor;
-use crate::input::read_word;
-
-#[derive(Clone, Copy)]
+#[derive(Clone, Copy, PartialEq, Eq, Debug)]
 pub enum Name {
     Graph,
     Presets,
@@ -28,103 +25,66 @@ pub enum Name {
     Unknown,
 }
 
-// A name and the place after it.
-#[derive(Clone, Copy)]
-pub struct NameRead {
-    pub name: Name,
-    pub input: Cursor,
-}
+impl Name {
+    const KNOWN: [Name; 19] = [
+        Name::Graph,
+        Name::Presets,
+        Name::Incidence,
+        Name::EdgesAt,
+        Name::EdgeWalk,
+        Name::TwoColor,
+        Name::LineGraph,
+        Name::GreedyNodeColor,
+        Name::GreedyNodeColorWithPresetColors,
+        Name::GreedyNodeColorWithColoringStrategy,
+        Name::GreedyEdgeColor,
+        Name::GreedyEdgeColorWithColoringStrategy,
+        Name::MisraGriesEdgeColor,
+        Name::MisraGriesAddEdge,
+        Name::FewerDays,
+        Name::File,
+        Name::ReadGraphFile,
+        Name::WriteGraphFile,
+        Name::Matchdays,
+    ];
 
-fn same(word: &[u8], name: &[u8]) -> bool
-    ensures answer { let word = word.entry.now in let name = name.entry.now in (result ≡ true → word ≡ name) × (word ≡ name → result ≡ true) }
-{
-    if word.len() != name.len() {
-        return false;
-    }
-    let mut i = 0;
-    while i < word.len() {
-        if word[i] != name[i] {
-            return false;
+    fn word(self) -> &'static str {
+        match self {
+            Name::Graph => "graph",
+            Name::Presets => "presets",
+            Name::Incidence => "incidence",
+            Name::EdgesAt => "edges_at",
+            Name::EdgeWalk => "edge_walk",
+            Name::TwoColor => "two_color",
+            Name::LineGraph => "line_graph",
+            Name::GreedyNodeColor => "greedy_node_color",
+            Name::GreedyNodeColorWithPresetColors => "greedy_node_color_with_preset_colors",
+            Name::GreedyNodeColorWithColoringStrategy => "greedy_node_color_with_coloring_strategy",
+            Name::GreedyEdgeColor => "greedy_edge_color",
+            Name::GreedyEdgeColorWithColoringStrategy => "greedy_edge_color_with_coloring_strategy",
+            Name::MisraGriesEdgeColor => "misra_gries_edge_color",
+            Name::MisraGriesAddEdge => "misra_gries_add_edge",
+            Name::FewerDays => "fewer_days",
+            Name::File => "file",
+            Name::ReadGraphFile => "read_graph_file",
+            Name::WriteGraphFile => "write_graph_file",
+            Name::Matchdays => "matchdays",
+            Name::Unknown => "unknown",
         }
-        i += 1;
     }
-    true
 }
 
-// The name of a greedy colouring or of Misra-Gries.
-fn coloring_of(word: &[u8]) -> Name {
-    if same(word, b"greedy_node_color") {
-        return Name::GreedyNodeColor;
+impl From<&[u8]> for Name {
+    fn from(word: &[u8]) -> Name {
+        Name::KNOWN
+            .into_iter()
+            .find(|name| name.word().as_bytes() == word)
+            .unwrap_or(Name::Unknown)
     }
-    if same(word, b"greedy_node_color_with_preset_colors") {
-        return Name::GreedyNodeColorWithPresetColors;
-    }
-    if same(word, b"greedy_node_color_with_coloring_strategy") {
-        return Name::GreedyNodeColorWithColoringStrategy;
-    }
-    if same(word, b"greedy_edge_color") {
-        return Name::GreedyEdgeColor;
-    }
-    if same(word, b"greedy_edge_color_with_coloring_strategy") {
-        return Name::GreedyEdgeColorWithColoringStrategy;
-    }
-    if same(word, b"misra_gries_edge_color") {
-        return Name::MisraGriesEdgeColor;
-    }
-    if same(word, b"misra_gries_add_edge") {
-        return Name::MisraGriesAddEdge;
-    }
-    Name::Unknown
 }
 
-fn name_of(word: &[u8]) -> Name {
-    if same(word, b"graph") {
-        return Name::Graph;
+impl fmt::Display for Name {
+    fn fmt<W: fmt::Write>(&self, f: &mut fmt::Formatter<W>) -> fmt::Result {
+        f.write_str(self.word())
     }
-    if same(word, b"presets") {
-        return Name::Presets;
-    }
-    if same(word, b"incidence") {
-        return Name::Incidence;
-    }
-    if same(word, b"edges_at") {
-        return Name::EdgesAt;
-    }
-    if same(word, b"edge_walk") {
-        return Name::EdgeWalk;
-    }
-    if same(word, b"two_color") {
-        return Name::TwoColor;
-    }
-    if same(word, b"line_graph") {
-        return Name::LineGraph;
-    }
-    if same(word, b"fewer_days") {
-        return Name::FewerDays;
-    }
-    if same(word, b"file") {
-        return Name::File;
-    }
-    if same(word, b"read_graph_file") {
-        return Name::ReadGraphFile;
-    }
-    if same(word, b"write_graph_file") {
-        return Name::WriteGraphFile;
-    }
-    if same(word, b"matchdays") {
-        return Name::Matchdays;
-    }
-    coloring_of(word)
-}
-
-// The line's first word.
-pub(crate) fn read_name(rt: &impl Input, buffer: &mut [u8], input: Cursor) -> NameRead
-    ensures left { result.input.left ≤ input.left }
-{
-    let mut word = [0u8; 64];
-    let read = read_word(rt, buffer, input, &mut word);
-    let end = read.count;
-    let name = name_of(&word[..end]);
-    let input = read.input;
-    NameRead { name, input }
 }

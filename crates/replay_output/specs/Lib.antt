@@ -1,3 +1,2 @@
--- What a call is lent, and how much of it.
-pub mod Counts
+-- What stands in a lent slice.
 pub mod Lent

@@ -1,96 +1,89 @@
-// What a line lends: how much of a slice, what stands in it before the call, and whether the call left it so.
-ghost use Rattle.std.specs.Prelude.{◌≡◌, true};
-ghost use Rattle.replay_output.specs.Counts.{IsPrefixLen};
+// What stands in a lent slice before its call, and whether the call left it so.
+ghost use Rattle.std.specs.Prelude.{◌≡◌, ℕ, true, refl, min, length, take};
+ghost use Rattle.std.proofs.Common.{eq-eqb, eqb-true};
 ghost use Rattle.replay_output.specs.Lent.{number_at, byte_at, Lent};
 
-// As many of list's numbers as are wanted, or all that it has.
-pub fn cut(wanted: usize, list: &[u16]) -> usize
-    ensures counts { IsPrefixLen result list.now }
-{
-    if wanted < list.len() {
-        wanted
-    } else {
-        list.len()
+use std::fmt::Display;
+
+// A number of a lent slice.
+pub trait Number: Copy + PartialEq + Display + Drop {
+    ghost standing_at: { ℕ → Self };
+
+    ghost narrowed: { ℕ → Self };
+
+    // What stands at a place before the call: unlike its neighbours and what a call writes, so that a place that was written shows.
+    fn standing_at(place: usize) -> Self
+        ensures { result ≡ standing_at place };
+
+    // A number as a slice holds it; one that is too large becomes the greatest.
+    fn narrowed(value: usize) -> Self
+        ensures { result ≡ narrowed value };
+
+    ghost equals: { (x y : Self) → Self.eq x y ≡ true → x ≡ y };
+
+    ghost itself: { (x : Self) → Self.eq x x ≡ true };
+}
+
+impl Number for u16 {
+    ghost standing_at = { number_at };
+
+    ghost narrowed = { λ value. min value 65535 };
+
+    fn standing_at(place: usize) -> u16 {
+        (60000 + place % 5000) as u16
     }
-}
 
-// The same of bytes.
-pub fn cut_bytes(wanted: usize, bytes: &[u8]) -> usize
-    ensures counts { IsPrefixLen result bytes.now }
-{
-    if wanted < bytes.len() {
-        wanted
-    } else {
-        bytes.len()
+    fn narrowed(value: usize) -> u16 {
+        u16::try_from(value).unwrap_or(u16::MAX)
     }
+
+    ghost equals = { eqb-true };
+
+    ghost itself = { λ x. eq-eqb x x refl };
 }
 
-// One number more than `before`, or all that list has: the starts of a table with so many nodes.
-pub fn cut_after(before: usize, list: &[u16]) -> usize
-    ensures counts { IsPrefixLen result list.now }
-{
-    if before < list.len() {
-        before + 1
-    } else {
-        list.len()
+impl Number for u8 {
+    ghost standing_at = { byte_at };
+
+    ghost narrowed = { λ value. min value 255 };
+
+    fn standing_at(place: usize) -> u8 {
+        (100 + place % 100) as u8
     }
-}
 
-// What stands at a place before the call: unlike its neighbours and what a call writes, so that a place that was written shows.
-fn number_at(i: usize) -> u16
-    ensures answer { result ≡ number_at i }
-{
-    (60000 + i % 5000) as u16
-}
-
-fn byte_at(i: usize) -> u8
-    ensures answer { result ≡ byte_at i }
-{
-    (100 + i % 100) as u8
-}
-
-pub fn lend(list: &mut [u16])
-    ensures lent { Lent number_at list.new }
-{
-    let mut i = 0;
-    while i < list.len() {
-        list[i] = number_at(i);
-        i += 1;
+    fn narrowed(value: usize) -> u8 {
+        u8::try_from(value).unwrap_or(u8::MAX)
     }
+
+    ghost equals = { eqb-true };
+
+    ghost itself = { λ x. eq-eqb x x refl };
 }
 
-pub fn lend_bytes(bytes: &mut [u8])
-    ensures lent { Lent byte_at bytes.new }
+// As many of the list's numbers as are wanted, or all that it has.
+pub fn front<T>(list: &[T], wanted: usize) -> &[T]
+    ensures { result.now ≡ take wanted list.now }
 {
-    let mut i = 0;
-    while i < bytes.len() {
-        bytes[i] = byte_at(i);
-        i += 1;
-    }
+    &list[..wanted.min(list.len())]
 }
 
-pub(crate) fn unchanged(list: &[u16]) -> bool
-    ensures answer { let list = list.entry.now in (result ≡ true → Lent number_at list) × (Lent number_at list → result ≡ true) }
+// The same to be written, as it stands before a call.
+pub fn lend<T: Number>(list: &mut [T], wanted: usize) -> &mut [T]
+    ensures count { length result.now ≡ min wanted (length list.old) }
+    ensures lent { Lent T.standing_at result.now }
 {
-    let mut i = 0;
-    while i < list.len() {
-        if list[i] != number_at(i) {
-            return false;
-        }
-        i += 1;
+    let count = wanted.min(list.len());
+    let lent = &mut list[..count];
+    for (place, number) in lent.iter_mut().enumerate() {
+        *number = T::standing_at(place);
     }
-    true
+    lent
 }
 
-pub(crate) fn unchanged_bytes(bytes: &[u8]) -> bool
-    ensures answer { let bytes = bytes.entry.now in (result ≡ true → Lent byte_at bytes) × (Lent byte_at bytes → result ≡ true) }
+pub(crate) fn unchanged<T: Number>(list: &[T]) -> bool
+    ensures answer { let list = list.entry.now in (result ≡ true → Lent T.standing_at list) × (Lent T.standing_at list → result ≡ true) }
 {
-    let mut i = 0;
-    while i < bytes.len() {
-        if bytes[i] != byte_at(i) {
-            return false;
-        }
-        i += 1;
-    }
-    true
+    list.iter()
+        .enumerate()
+        .all(|(place, number)| *number == T::standing_at(place))
 }

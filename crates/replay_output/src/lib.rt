@@ -5,5 +5,5 @@
 mod lent;
 mod output;
 
-pub use lent::{cut, cut_after, cut_bytes, lend, lend_bytes};
-pub use output::{flush, put, put_all, put_bytes, put_list, put_number, put_part, put_report};
+pub use lent::{Number, front, lend};
+pub use output::Output;

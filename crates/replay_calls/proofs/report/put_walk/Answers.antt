@@ -3,7 +3,7 @@ use native.Mathlib.Omega.{arith}
 use Rattle.edge_walk.proofs.WalkLaws.{step_edge}
 use Rattle.replay_calls.proofs.report.put_walk.Goals as goal
 
-pub loop-text-smaller : goal.loop-text-smaller
-loop-text-smaller g c =
+pub loop-edge-smaller : goal.loop-edge-smaller
+loop-edge-smaller g c =
     let edge = step_edge _ _ _ _ _ c.edge_at.ensures.answer c.in-Some.is in
     omega arith

@@ -1,0 +1,2 @@
+-- What the reading functions count.
+pub mod Counts
