@@ -59,8 +59,9 @@ pub fn first_joining(
 ) -> Option<EdgeIndex>
     ensures answer { option_of result ≡ first_that (joins_marked work.now table.now marks.now stamp far.0) (drop from near.now) }
 {
-    for edge in near.get(from..)? {
-        let edge = EdgeIndex(*edge);
+    // By place, since a search over near.get(from..) takes up to an eighth longer.
+    for i in from..near.len() {
+        let edge = EdgeIndex(near[i]);
         if joins(work, table, marks, stamp, far, edge) {
             return Some(edge);
         }
