@@ -24,8 +24,8 @@ use Rattle.greedy.specs.Degree.{color_in_order, degree_order, degree_colors}
 use Rattle.items.specs.declared.Kind.{Kind}
 use Rattle.items.specs.declared.Kind.TheVariants.{Nodes, Edges}
 use Rattle.items.specs.Items.{items_of, neighbors_of, free_color, Tabled}
-use Rattle.items.proofs.ItemsLaws.{items_few, free_smallest}
-use Rattle.degree.specs.Order.{falling_buckets, degree_in, Countable}
+use Rattle.items.proofs.ItemsLaws.{free_smallest}
+use Rattle.degree.specs.Order.{falling_buckets, degree_in}
 use Rattle.degree.proofs.OrderLaws.{falling_same, degree_among, degree_among_lem, order_buckets, order_member, order_nodup}
 use Rattle.degree.proofs.PlaceLaws.{zeros_at}
 use Rattle.degree.specs.Color.{OrderRoom, Waiting}
@@ -71,13 +71,6 @@ edges_room n ends passed = record {
 -- ---- the order of items whose degrees are known
 
 module _ (nb : ℕ → List ℕ) (n top : ℕ) (presets degrees : List ℕ) (known : (v : ℕ) → v < n → get_or degrees v 0 ≡ length (nb v)) (few : (v : ℕ) → v < n → length (nb v) < top) (l : length presets ≡ n) where
-  items_countable : n ≤ 65535 → n ≤ length degrees → Countable degrees presets top
-  items_countable b h = record {
-    known = omega arith;
-    items = omega arith;
-    below = λ v i. let i' : v < n = omega arith in omega (arith, known v i', few v i');
-  }
-
   items_order : (order : List ℕ) → order ≡ falling_buckets (degree_in degrees) top (uncolored presets (length presets)) → order ≡ degree_order nb n presets
   unfolding degree_in degree_among
   items_order order e =
@@ -91,12 +84,6 @@ module _ (kind : Kind) (n : ℕ) (ends presets degrees₀ degrees counts order :
     (known : (v : ℕ) → v < length presets → get_or degrees v 0 ≡ length (neighbors_of kind n ends v)) where
   item_known : (v : ℕ) → v < items_of kind n ends → get_or degrees v 0 ≡ length (neighbors_of kind n ends v)
   item_known v h = known v (omega arith)
-
-  pub degrees_countable : length degrees ≡ length degrees₀ → Countable degrees presets (length counts)
-  degrees_countable e =
-      items_countable (neighbors_of kind n ends) (items_of kind n ends) (length counts) presets degrees item_known room.counts_room l
-      (omega (arith, items_few kind n ends (items_of kind n ends) (record { passed = passed; size = refl })))
-      (omega (arith, room.degrees_room))
 
   pub order_found : (found : List ℕ) → found ≡ falling_buckets (degree_in degrees) (length counts) (uncolored presets (length presets)) → found ≡ degree_order (neighbors_of kind n ends) (items_of kind n ends) presets
   order_found = items_order (neighbors_of kind n ends) (items_of kind n ends) (length counts) presets degrees item_known room.counts_room l
@@ -155,17 +142,3 @@ item_turn kind n ends starts entries order colors i c tabled waiting e h p =
 pub degree_colored : (nb : ℕ → List ℕ) (n : ℕ) (presets lent order copied colors : List ℕ) → length presets ≡ n → length lent ≡ n → order ≡ degree_order nb n presets → copied ≡ copied_over presets lent → colors ≡ color_in_order nb order copied → colors ≡ degree_colors nb n presets
 unfolding degree_colors
 degree_colored nb n presets lent order copied colors a b e f g = g ∙ ap₂ (λ (o l : List ℕ). color_in_order nb o l) e (f ∙ copied_same presets lent (b ∙ sym a))
-
--- The kind that the code has found it to be.
-module _ (kind found : Kind) (same : kind ≡ found) (n : ℕ) (ends : List ℕ) where
-  pub kind_sizes : (presets colors : List ℕ) → (length presets ≡ items_of kind n ends) × (length colors ≡ items_of kind n ends) → (length presets ≡ items_of found n ends) × (length colors ≡ items_of found n ends)
-  kind_sizes presets colors p = rw same at p
-
-  pub kind_colored : (presets colors : List ℕ) → colors ≡ degree_colors (neighbors_of found n ends) (items_of found n ends) presets → colors ≡ degree_colors (neighbors_of kind n ends) (items_of kind n ends) presets
-  kind_colored presets colors e = rw same e
-
-  pub kind_tabled : (starts entries : List ℕ) (items : ℕ) → Tabled kind n ends starts entries items → Tabled found n ends starts entries items
-  kind_tabled starts entries items t = rw same at t
-
-  pub kind_turns : (order lent colors : List ℕ) → colors ≡ color_in_order (neighbors_of found n ends) order lent → colors ≡ color_in_order (neighbors_of kind n ends) order lent
-  kind_turns order lent colors e = rw same e

@@ -26,10 +26,6 @@ use Rattle.items.specs.declared.Kind.{Kind}
 use Rattle.items.specs.declared.Kind.TheVariants.{Nodes, Edges}
 use Rattle.items.specs.Items.{items_of, first_node, second_node, across_of, own_of, neighbors_of, count_at, neighbor_count, free_color, Sized, Tabled}
 
--- A graph that passed, with its table, at the slice of its items.
-pub items_tabled : (kind : Kind) (n : ℕ) (ends starts entries colors : List ℕ) → Passed n ends → Table ends n starts entries → length colors ≡ items_of kind n ends → Tabled kind n ends starts entries (length colors)
-items_tabled kind n ends starts entries colors p table e = record { sized = record { passed = p; size = e }; table = table }
-
 -- ---- a graph that passed
 
 pub items_few : (kind : Kind) (n : ℕ) (ends : List ℕ) (items : ℕ) → Sized kind n ends items → items ≤ 4096
