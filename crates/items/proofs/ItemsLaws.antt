@@ -10,11 +10,10 @@ use lib.Dec.{ltb, leb}
 use borrow.Author.Tests.{leb-true, eq-eqb, ne_eqb}
 use Rattle.lists.proofs.Tests.{by-test, dec_eq}
 use Rattle.lists.specs.Member.{Mem}
-use Rattle.graph.specs.Check.{Passed}
 use Rattle.graph.proofs.CheckLaws.{passed_inside}
 use Rattle.graph.specs.Edges.{edge_count, first_end, second_end, far_end, edges_at, degree, neighbors, At}
 use Rattle.graph.proofs.EdgeLaws.{at_edge}
-use Rattle.graph.specs.Stretch.{bounds, stretch, Table}
+use Rattle.graph.specs.Stretch.{bounds, stretch}
 use Rattle.graph.proofs.NeighborLaws.{neighbor_edge, edge_neighbor, passed_neighbor, length_neighbors}
 use Rattle.line_list.proofs.LineNeighborLaws.{line_neighbor_member, line_neighbor_count, line_neighbor_count_loop}
 use Rattle.greedy.specs.Greedy.{Neighborhood}
@@ -24,7 +23,7 @@ use Rattle.greedy.proofs.TurnLaws.{node_neighborhood, edge_neighborhood, edge_ne
 use Rattle.smallest_color.proofs.MarksLaws.{smallest_color_node, smallest_color_edge}
 use Rattle.items.specs.declared.Kind.{Kind}
 use Rattle.items.specs.declared.Kind.TheVariants.{Nodes, Edges}
-use Rattle.items.specs.Items.{items_of, first_node, second_node, across_of, own_of, neighbors_of, count_at, neighbor_count, free_color, Sized, Tabled}
+use Rattle.items.specs.Items.{first_node, second_node, across_of, own_of, neighbors_of, count_at, neighbor_count, free_color, Sized, Tabled}
 
 -- ---- a graph that passed
 

@@ -1,8 +1,7 @@
 -- `stands_at` meets its contract. The invariant: none of the edges passed, those from i on, leads to the colour.
-use Prim.Native.Nat.{◌≤◌}
 use mathlib.Core.Path.{◌≡◌}
 use mathlib.Core.Bool.{false}
-use lib.ListN.{length, drop}
+use lib.ListN.{drop}
 use Rattle.color_marks.specs.Marks.{stands_at}
 use Rattle.color_marks.proofs.stands_at.Given as goal
 
