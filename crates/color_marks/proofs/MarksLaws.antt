@@ -1,24 +1,24 @@
 -- Laws of the marks: the items around one, what is stored for them, and where a colour stands.
-use Prim.Native.Nat.{ℕ, ◌+◌, ◌<◌, ◌≤◌, zero, suc, ◌-◌}
+use Prim.Native.Nat.{ℕ, ◌+◌, ◌<◌, ◌≤◌, zero, suc}
 use mathlib.Core.Path.{◌≡◌, refl, sym, ◌∙◌, ap}
 use mathlib.Core.List.{List, [], ◌∷◌, ◌++◌}
 use native.Mathlib.Numerals.{add-one}
-use lib.ListN.{length, get_or, take, set, length-set, drop, drop_of_length-le, replicate, length-replicate, get_or-replicate}
-use lib.Seq.{take-suc, set_out, take-length, get_or-set_same, get_or-set_other, drop-cons}
-use borrow.Author.Tests.{eq-eqb, ne_eqb, lt-ltb, le-ltb, ltb-true, eqb-true}
+use lib.ListN.{length, get_or, take, set, length-set, replicate, length-replicate, get_or-replicate}
+use lib.Seq.{take-suc, set_out, take-length, get_or-set_same, get_or-set_other}
+use borrow.Author.Tests.{eq-eqb, ne_eqb, lt-ltb, ltb-true, eqb-true}
 use mathlib.Core.Logic.{inl, inr}
 use native.Mathlib.Omega.{arith}
 use mathlib.Core.Bool.{Bool, true, false, ◌||◌, false≢true, cond}
-use native.Mathlib.Nat.{le_refl}
 use lib.Dec.{eqb, ltb}
-use Rattle.lists.proofs.MemberLaws.{map_append, dec_mem, mem_get_or}
+use Rattle.lists.proofs.MemberLaws.{map_append, dec_mem}
 use Rattle.items.specs.declared.Kind.{Kind}
+use Rattle.std.specs.Bool.{MatchBool}
 use Rattle.color_marks.specs.declared.Note.{Note}
 use Rattle.color_marks.specs.declared.Note.TheVariants.{NotAsked, Absent, Stands}
 use Rattle.items.specs.Items.{first_node, second_node, across_of}
 use Rattle.color_marks.specs.Marks.{across_all, along, around, stored, has_color, stands_at, stands, mark_of, says_stands, Asked, used_marks}
 use Rattle.lists.specs.Member.{Mem, elem}
-use Rattle.lists.proofs.Tests.{and_true, and_false, or_true, true_or, dec_eq}
+use Rattle.lists.proofs.Tests.{by-test, and_true, or_true, true_or, dec_eq}
 use Rattle.graph.specs.Colored.{color_of}
 use Rattle.graph.proofs.ColorLaws.{color_read}
 use Rattle.graph.specs.Stretch.{stretch}
@@ -114,38 +114,24 @@ module _ (kind : Kind) (ends colors : List ℕ) (c w : ℕ) where
       rw (← p, lt-ltb v (length colors) h, eq-eqb (get_or colors v 0) c (color_read colors v 0 h ∙ e))
   item_stands (j ∷ ks) k (inr p) h e = true_or (has_color colors c (across_of kind ends j w)) (stands_at kind ends colors c w ks) (item_stands ks k p h e)
 
-  -- ---- one edge after the other, from the last to the first
+  -- ---- as the code finds it, by the places of the edges
 
-  module _ (ks : List ℕ) where
-    pub stands_none : stands_at kind ends colors c w (drop (length ks) ks) ≡ false
-    unfolding stands_at
-    stands_none = ap (stands_at kind ends colors c w) (drop_of_length-le ks (le_refl (length ks)))
+  stands_found : (ks : List ℕ) (i : ℕ) → i < length ks → has_color colors c (across_of kind ends (get_or ks i 0) w) ≡ true → stands_at kind ends colors c w ks ≡ true
+  unfolding stands_at
+  stands_found [] i h t = let z : ⊥ = omega arith in absurd z
+  stands_found (k ∷ ks) zero h t = rw t
+  stands_found (k ∷ ks) (suc i) h t = true_or (has_color colors c (across_of kind ends k w)) (stands_at kind ends colors c w ks) (stands_found ks i (omega arith) t)
 
-    pub stands_nowhere : (i : ℕ) → stands_at kind ends colors c w (drop i ks) ≡ false → i ≤ 0 → (edges : List ℕ) → ks ≡ edges → false ≡ stands_at kind ends colors c w edges
-    stands_nowhere zero p h edges x = sym (ap (stands_at kind ends colors c w) (sym x) ∙ p)
-    stands_nowhere (suc i) p h edges x = let z : ⊥ = omega arith in absurd z
+  stands_missed : (ks : List ℕ) → ((i : ℕ) → i < length ks → has_color colors c (across_of kind ends (get_or ks i 0) w) ≡ false) → stands_at kind ends colors c w ks ≡ false
+  unfolding stands_at
+  stands_missed [] f = refl
+  stands_missed (k ∷ ks) f = let z : 0 < suc (length ks) = omega arith in rw (f 0 z) (stands_missed ks (λ i h. f (suc i) (omega arith)))
 
-    module _ (i : ℕ) (z : 0 < i) (h : i ≤ length ks) (v : ℕ) (e : v ≡ across_of kind ends (get_or ks (i - 1) 0) w) where
-      pub stands_here : v < length colors → get_or colors v 0 ≡ c → (edges : List ℕ) → ks ≡ edges → true ≡ stands_at kind ends colors c w edges
-      stands_here b q edges x =
-          let here : v < length colors → color_of colors v ≡ c → stands_at kind ends colors c w ks ≡ true = rw e (item_stands ks (get_or ks (i - 1) 0) (mem_get_or ks (i - 1) 0 (omega arith))) in
-          sym (ap (stands_at kind ends colors c w) (sym x) ∙ here b (sym (color_read colors v 0 b) ∙ q))
-
-      -- One edge more is passed.
-      past : stands_at kind ends colors c w (drop i ks) ≡ false → has_color colors c v ≡ false → stands_at kind ends colors c w (drop (i - 1) ks) ≡ false
-      unfolding stands_at
-      past p f =
-          let next : suc (i - 1) ≡ i = omega arith in
-          let passed : drop (i - 1) ks ≡ get_or ks (i - 1) 0 ∷ drop i ks = drop-cons ks (i - 1) 0 (omega arith) ∙ ap (λ (j : ℕ). get_or ks (i - 1) 0 ∷ drop j ks) next in
-          ap (stands_at kind ends colors c w) passed ∙ (ap (λ (b : Bool). b || stands_at kind ends colors c w (drop i ks)) (ap (has_color colors c) (sym e) ∙ f) ∙ p)
-
-      pub stands_outside : stands_at kind ends colors c w (drop i ks) ≡ false → length colors ≤ v → stands_at kind ends colors c w (drop (i - 1) ks) ≡ false
-      unfolding has_color
-      stands_outside p o = past p (rw (le-ltb v (length colors) o))
-
-      pub stands_other : stands_at kind ends colors c w (drop i ks) ≡ false → (get_or colors v 0 ≡ c → ⊥) → stands_at kind ends colors c w (drop (i - 1) ks) ≡ false
-      unfolding has_color
-      stands_other p n = past p (rw (ne_eqb (get_or colors v 0) c n) (and_false (ltb v (length colors)) false refl))
+  pub stands_by : (ks edges : List ℕ) (r : Bool) → ks ≡ edges
+      → MatchBool r ((i : ℕ) × (i < length ks) × (has_color colors c (across_of kind ends (get_or ks i 0) w) ≡ true)) ((i : ℕ) → i < length ks → has_color colors c (across_of kind ends (get_or ks i 0) w) ≡ false)
+      → r ≡ stands_at kind ends colors c w edges
+  stands_by ks edges true e found = rw (← e) (sym (stands_found ks found.0 found.1 found.2))
+  stands_by ks edges false e missed = rw (← e) (sym (stands_missed ks missed))
 
 module _ (kind : Kind) (ends starts entries colors : List ℕ) (c : ℕ) where
   -- ---- as the code asks
@@ -169,39 +155,38 @@ module _ (kind : Kind) (ends starts entries colors : List ℕ) (c : ℕ) where
   asked_before at w x p h e n = (ap says_stands (sym e) ∙ p.answer w h (λ z. n (sym e ∙ z)), p)
 
   module _ (at : List Note) (w : ℕ) (p : Asked kind ends starts entries colors c at) (h : w < length at) (r : Bool) (q : r ≡ stands_at kind ends colors c w (stretch starts entries w)) where
-    pub asked_yes : r ≡ true → (true ≡ stands kind ends starts entries colors c w) × Asked kind ends starts entries colors c (set at w Stands)
+    pub asked_yes : r ≡ true → (r ≡ stands kind ends starts entries colors c w) × Asked kind ends starts entries colors c (set at w Stands)
     unfolding stands
-    asked_yes t = (sym t ∙ q, asked_more at w Stands p h (sym t ∙ q))
+    asked_yes t = (q, asked_more at w Stands p h (sym t ∙ q))
 
-    pub asked_no : r ≡ false → (false ≡ stands kind ends starts entries colors c w) × Asked kind ends starts entries colors c (set at w Absent)
+    pub asked_no : r ≡ false → (r ≡ stands kind ends starts entries colors c w) × Asked kind ends starts entries colors c (set at w Absent)
     unfolding stands
-    asked_no t = (sym t ∙ q, asked_more at w Absent p h (sym t ∙ q))
+    asked_no t = (q, asked_more at w Absent p h (sym t ∙ q))
 
-  module _ (v : ℕ) where
-    pub mark_outside : length colors ≤ v → 0 ≡ mark_of kind ends starts entries colors c v
-    unfolding mark_of has_color
-    mark_outside o = rw (le-ltb v (length colors) o)
+  module _ (v : ℕ) (r : Bool) (e : r ≡ has_color colors no_color v) where
+    pub mark_colored : r ≡ false → 0 ≡ mark_of kind ends starts entries colors c v
+    unfolding mark_of
+    mark_colored t = rw (← e, t)
 
-    pub mark_colored : (get_or colors v 0 ≡ no_color → ⊥) → 0 ≡ mark_of kind ends starts entries colors c v
-    unfolding mark_of has_color
-    mark_colored n = rw (ne_eqb (get_or colors v 0) no_color n, and_false (ltb v (length colors)))
-
-    module _ (inside : v < length colors) (bare : get_or colors v 0 ≡ no_color) where
+    module _ (bare : r ≡ true) where
       -- The mark of an item without a colour.
-      pub bare_mark : mark_of kind ends starts entries colors c v ≡ cond (stands kind ends starts entries colors c (first_node kind ends v) || stands kind ends starts entries colors c (second_node kind ends v)) 1 0
-      unfolding mark_of has_color
-      bare_mark = rw (lt-ltb v (length colors) inside, eq-eqb (get_or colors v 0) no_color bare)
+      mark_bare : mark_of kind ends starts entries colors c v ≡ cond (stands kind ends starts entries colors c (first_node kind ends v) || stands kind ends starts entries colors c (second_node kind ends v)) 1 0
+      unfolding mark_of
+      mark_bare = rw (← e, bare)
 
-      module _ (a : ℕ) (p : a ≡ first_node kind ends v) (r : Bool) (x : r ≡ stands kind ends starts entries colors c a) where
-        pub mark_first : r ≡ true → 1 ≡ mark_of kind ends starts entries colors c v
-        mark_first t = sym (bare_mark ∙ rw (← p, ← x, t))
+      -- The mark is 1 where the first node said that the colour stands there, and otherwise what the second said.
+      module _ (m : ℕ) (said : Bool) (one : said ≡ true → m ≡ 1) (zero : said ≡ false → m ≡ 0) (a : ℕ) (p : a ≡ first_node kind ends v) (f : Bool) (x : f ≡ stands kind ends starts entries colors c a) where
+        pub mark_first : said ≡ f → f ≡ true → m ≡ mark_of kind ends starts entries colors c v
+        mark_first q t = one (q ∙ t) ∙ sym (mark_bare ∙ rw (← p, ← x, t))
 
-        module _ (b : ℕ) (q : b ≡ second_node kind ends v) (s : Bool) (y : s ≡ stands kind ends starts entries colors c b) (f : r ≡ false) where
-          pub mark_second : s ≡ true → 1 ≡ mark_of kind ends starts entries colors c v
-          mark_second t = sym (bare_mark ∙ rw (← p, ← q, ← x, ← y, f, t))
+        pub mark_second : f ≡ false → (b : ℕ) → b ≡ second_node kind ends v → (s : Bool) → s ≡ stands kind ends starts entries colors c b → said ≡ s → m ≡ mark_of kind ends starts entries colors c v
+        mark_second t b y s z q = by-test s
+            (λ u. one (q ∙ u) ∙ sym (mark_bare ∙ rw (← p, ← y, ← x, ← z, t, u)))
+            (λ u. zero (q ∙ u) ∙ sym (mark_bare ∙ rw (← p, ← y, ← x, ← z, t, u)))
 
-          pub mark_neither : s ≡ false → 0 ≡ mark_of kind ends starts entries colors c v
-          mark_neither t = sym (bare_mark ∙ rw (← p, ← q, ← x, ← y, f, t))
+  pub bare_mark : (v : ℕ) → v < length colors → get_or colors v 0 ≡ no_color → mark_of kind ends starts entries colors c v ≡ cond (stands kind ends starts entries colors c (first_node kind ends v) || stands kind ends starts entries colors c (second_node kind ends v)) 1 0
+  unfolding has_color
+  bare_mark v inside bare = mark_bare v true (rw (lt-ltb v (length colors) inside, eq-eqb (get_or colors v 0) no_color bare)) refl
 
 -- The items around item v get their marks, those along the edges at its first node and then at its second.
 module _ (kind : Kind) (ends starts entries : List ℕ) (v a b : ℕ) (p : a ≡ first_node kind ends v) (q : b ≡ second_node kind ends v) where

@@ -2,10 +2,11 @@
 // colour are marked, and each node is asked once.
 #![tactic(auto)]
 
-ghost use Rattle.std.specs.Prelude.{◌≡◌};
+ghost use Rattle.std.specs.Prelude.{◌≡◌, ℕ, ◌<◌, true, false, MatchBool, length, get_or};
+ghost use Rattle.items.specs.Items.{across_of};
 ghost use Rattle.lists.specs.Member.{elem};
 ghost use Rattle.graph.specs.Stretch.{stretch};
-ghost use Rattle.color_marks.specs.Marks.{stands_at, across_all, around, stored, stands, mark_of, Asked, used_marks};
+ghost use Rattle.color_marks.specs.Marks.{has_color, stands_at, across_all, around, stored, stands, mark_of, Asked, used_marks};
 
 use edge_walk::edges_at;
 use graph::{Color, EdgeIndex, Graph, NodeIndex};
@@ -19,30 +20,35 @@ enum Note {
     Stands,
 }
 
-// Whether an edge at the node leads to an item that has the colour. In each of its two groups a node's edges stand newest first, and
-// among equals the lowest item is coloured first: so the colour is mostly found sooner from the back.
+// Whether the item has the colour; one that has no place in the list has none.
+#[tactic(auto, unfolding(crate::specs::Marks::has_color))]
+fn has_color(colors: &[u16], item: NodeIndex, color: Color) -> bool
+    ensures answer { result ≡ has_color colors.now color.0 item.0 }
+{
+    let v = item.0 as usize;
+    v < colors.len() && colors[v] == color.0
+}
+
+// Whether one of these edges leads from the node to an item that has the colour. In each of its two groups a node's edges stand newest first,
+// and among equals the lowest item is coloured first: so the colour is mostly found sooner from the back.
 fn stands_at(
     kind: Kind,
     ends: &[u16],
-    starts: &[u16],
-    entries: &[u16],
+    edges: &[u16],
     colors: &[u16],
     node: NodeIndex,
     color: Color,
 ) -> bool
-    ensures answer { let ends = ends.entry.now in let starts = starts.entry.now in let entries = entries.entry.now in let colors = colors.entry.now in
-        result ≡ stands_at kind ends colors color.0 node.0 (stretch starts entries node.0) }
+    ensures cases { let ends = ends.entry.now in let edges = edges.entry.now in let colors = colors.entry.now in
+        MatchBool result
+        ((i : ℕ) × (i < length edges) × (has_color colors color.0 (across_of kind ends (get_or edges i 0) node.0) ≡ true))
+        ((i : ℕ) → i < length edges → has_color colors color.0 (across_of kind ends (get_or edges i 0) node.0) ≡ false) }
 {
-    let edges = edges_at(starts, entries, node);
-    for i in (0..edges.len()).rev() {
-        let v = across(kind, ends, EdgeIndex(edges[i]), node).0 as usize;
-        if v < colors.len() {
-            if colors[v] == color.0 {
-                return true;
-            }
-        }
-    }
-    false
+    edges.iter().rev().any(|&edge| has_color(
+        colors,
+        across(kind, ends, EdgeIndex(edge), node),
+        color,
+    ))
 }
 
 // Whether the colour stands at the node, and a note of the answer.
@@ -62,19 +68,30 @@ fn ask(
 {
     let w = node.0 as usize;
     if at.len() <= w {
-        return stands_at(kind, ends, starts, entries, colors, node, color);
+        return stands_at(
+            kind,
+            ends,
+            edges_at(starts, entries, node),
+            colors,
+            node,
+            color,
+        );
     }
     match at[w] {
         Note::Stands => return true,
         Note::Absent => return false,
         Note::NotAsked => {}
     }
-    if stands_at(kind, ends, starts, entries, colors, node, color) {
-        at[w] = Note::Stands;
-        return true;
-    }
-    at[w] = Note::Absent;
-    false
+    let stands = stands_at(
+        kind,
+        ends,
+        edges_at(starts, entries, node),
+        colors,
+        node,
+        color,
+    );
+    at[w] = if stands { Note::Stands } else { Note::Absent };
+    stands
 }
 
 // The mark of an item: 1 if it has no colour and the colour stands at one of its nodes.
@@ -92,22 +109,15 @@ fn item_mark(
     ensures answer { let ends = ends.entry.now in let starts = starts.entry.now in let entries = entries.entry.now in let colors = colors.entry.now in
         (result ≡ mark_of kind ends starts entries colors color.0 item.0) × Asked kind ends starts entries colors color.0 at.new }
 {
-    let v = item.0 as usize;
-    if colors.len() <= v {
-        return 0;
-    }
-    if colors[v] != Color::NONE {
+    if !has_color(colors, item, Color(Color::NONE)) {
         return 0;
     }
     let first = first_node(kind, ends, item);
-    if ask(kind, ends, starts, entries, colors, color, at, first) {
-        return 1;
-    }
     let second = second_node(kind, ends, item);
-    if ask(kind, ends, starts, entries, colors, color, at, second) {
-        return 1;
-    }
-    0
+    u8::from(
+        ask(kind, ends, starts, entries, colors, color, at, first)
+            || ask(kind, ends, starts, entries, colors, color, at, second),
+    )
 }
 
 // The items to which these edges of the node lead get their marks.
@@ -129,8 +139,8 @@ fn mark_along(
     ensures asked { let ends = ends.entry.now in let starts = starts.entry.now in let entries = entries.entry.now in let colors = colors.entry.now in
         Asked kind ends starts entries colors color.0 at.new }
 {
-    for edge in edges {
-        let item = across(kind, ends, EdgeIndex(*edge), node);
+    for &edge in edges {
+        let item = across(kind, ends, EdgeIndex(edge), node);
         let mark = item_mark(kind, ends, starts, entries, colors, color, at, item);
         let v = item.0 as usize;
         if v < marks.len() {
