@@ -6,7 +6,10 @@ ghost use Rattle.greedy.specs.Degree.{degree_colors};
 ghost use Rattle.greedy.specs.Call.{rule_of, greedy_nodes, greedy_edges};
 ghost use Rattle.callers.specs.Reliance.{NoPresetMoved};
 
-use wulgranite::{ColoringStrategy, Refusal, greedy_edge_color_with_coloring_strategy, greedy_node_color_with_coloring_strategy, greedy_node_color_with_preset_colors};
+use wulgranite::{
+    ColoringStrategy, Refusal, greedy_edge_color_with_coloring_strategy,
+    greedy_node_color_with_coloring_strategy, greedy_node_color_with_preset_colors,
+};
 
 pub fn no_preset_node_moved(
     n: usize,

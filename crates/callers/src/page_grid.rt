@@ -7,7 +7,11 @@ ghost use Rattle.greedy.specs.Degree.{degree_colors};
 ghost use Rattle.greedy.specs.Call.{rule_of, greedy_nodes, greedy_nodes_plain, greedy_edges, greedy_edges_plain};
 ghost use Rattle.callers.specs.Reliance.{AdjacentNodesDiffer, AdjacentEdgesDiffer, Lent, LentBoth};
 
-use wulgranite::{ColoringStrategy, Refusal, fewer_days, greedy_edge_color, greedy_edge_color_with_coloring_strategy, greedy_node_color, greedy_node_color_with_coloring_strategy};
+use wulgranite::{
+    ColoringStrategy, Refusal, fewer_days, greedy_edge_color,
+    greedy_edge_color_with_coloring_strategy, greedy_node_color,
+    greedy_node_color_with_coloring_strategy,
+};
 
 pub fn adjacent_nodes_differ(n: usize, ends: &[u16], colors: &mut [u16]) -> Result<usize, Refusal>
     ensures report { let ends = ends.entry.now in let colors = colors.entry.now in

@@ -16,7 +16,10 @@ fn entry_at(table: &[u16], node: NodeIndex, color: Color) -> Entry
         return Entry::NONE;
     }
     let place = color.0 as usize * EdgeTable::NODES + v;
-    table.get(place).copied().map_or(Entry::NONE, Entry)
+    if table.len() <= place {
+        return Entry::NONE;
+    }
+    Entry(table[place])
 }
 
 // The edge of this colour at the node.

@@ -73,7 +73,13 @@ pub fn greedy_node_color_with_coloring_strategy(
     match strategy {
         ColoringStrategy::Degree => degree::color(Kind::Nodes, n, ends, presets, colors),
         ColoringStrategy::Saturation => saturation::color(Kind::Nodes, n, ends, presets, colors),
-        ColoringStrategy::IndependentSet => independent_set::color(Kind::Nodes, n, ends, presets, colors),
+        ColoringStrategy::IndependentSet => independent_set::color(
+            Kind::Nodes,
+            n,
+            ends,
+            presets,
+            colors,
+        ),
     }
 }
 
@@ -118,6 +124,12 @@ pub fn greedy_edge_color_with_coloring_strategy(
     match strategy {
         ColoringStrategy::Degree => degree::color(Kind::Edges, n, ends, presets, colors),
         ColoringStrategy::Saturation => saturation::color(Kind::Edges, n, ends, presets, colors),
-        ColoringStrategy::IndependentSet => independent_set::color(Kind::Edges, n, ends, presets, colors),
+        ColoringStrategy::IndependentSet => independent_set::color(
+            Kind::Edges,
+            n,
+            ends,
+            presets,
+            colors,
+        ),
     }
 }

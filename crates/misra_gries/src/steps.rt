@@ -83,9 +83,8 @@ fn rotate_places(
     requires { Rotating ends.now work.old table.old fan.now d.0 (length colors.old) }
     ensures rotated { Rotated ends.now work.old fan.now d.0 work.new table.new }
 {
-    let len = fan.len();
     shift_colors(work, fan, d, colors);
-    repaint(ends, work, table, fan, &colors[..len]);
+    repaint(ends, work, table, fan, &colors[..fan.len()]);
 }
 
 // The same. Where the fan has one place, only that takes d, and no array has to be cleared for it; a few places take a short one.
@@ -94,17 +93,12 @@ fn rotate_fan(ends: &[u16], work: &mut [u16], table: &mut [u16], fan: &[u16], d:
     ensures rotated { Rotated ends.now work.old fan.now d.0 work.new table.new }
 {
     if fan.len() == 1 {
-        let colors = [d.0; 1];
-        repaint(ends, work, table, fan, &colors);
-        return;
+        repaint(ends, work, table, fan, &[d.0]);
+    } else if fan.len() <= FEW {
+        rotate_places(ends, work, table, fan, d, &mut [0; FEW]);
+    } else {
+        rotate_places(ends, work, table, fan, d, &mut [0; Graph::MAX_NODES]);
     }
-    if fan.len() <= FEW {
-        let mut colors = [0u16; FEW];
-        rotate_places(ends, work, table, fan, d, &mut colors);
-        return;
-    }
-    let mut colors = [0u16; Graph::MAX_NODES];
-    rotate_places(ends, work, table, fan, d, &mut colors);
 }
 
 // Steps 2 to 5 for an edge whose fan is given. The answer is the one new colour that may be greater than all before.
