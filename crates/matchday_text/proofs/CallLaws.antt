@@ -6,7 +6,10 @@ use mathlib.Core.List.{List, [], ◌∷◌, ◌++◌}
 use mathlib.Core.Option.{none, some, Option, bind}
 use native.Mathlib.Omega.{arith}
 use lib.Dec.{ltb}
-use lib.ListN.{length, take, replicate, length-append}
+use lib.ListN.{length, get_or, take, replicate, length-append}
+use mir.Syntax.{w8}
+use mir.Val.{Fits}
+use Rattle.lists.proofs.SearchLaws.{below_all}
 use borrow.Author.Tests.{ltb-true}
 use mathlib.Core.Bool.{true}
 use native.Mathlib.Decide.{dec_lt}
@@ -191,7 +194,10 @@ module _ (bytes ends₀ colors₀ : List ℕ) (c : Result FileSummary Refusal) (
     (reader : FileReader bytes ends₀ colors₀ (report_of_file c) ends colors) where
   -- ---- a refused reading
 
-  module _ (r : Refusal) (p : c ≡ Err r) (x : ℕ) (q : x ≡ number r) (below : all_below 256 bytes ≡ true) where
+  module _ (r : Refusal) (p : c ≡ Err r) (x : ℕ) (q : x ≡ number r) (fits : (i : ℕ) → Fits w8 (get_or bytes i 0)) where
+    below : all_below 256 bytes ≡ true
+    below = below_all 256 bytes (λ i h. omega (arith, fits i))
+
     -- A file has no more colours than edges.
     colors_room : (file : File) → WellFormed file → length file.colors ≤ 4096
     colors_room file w = elim w.others [

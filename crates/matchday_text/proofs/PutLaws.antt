@@ -6,7 +6,7 @@ use native.Mathlib.Omega.{arith}
 use lib.Dec.{ltb}
 use lib.ListN.{length, length-append, set, get_or, take}
 use borrow.Author.Tests.{lt-ltb, le-ltb, ltb-true, ltb-false}
-use lib.Seq.{set_out, take-suc, take-length, length-take-le}
+use lib.Seq.{set_out, take-suc, length-take-le}
 use native.Mathlib.Decide.{dec_lt}
 use native.Mathlib.Numerals.{add-one}
 use Rattle.lists.proofs.Tests.{by-test}
@@ -120,16 +120,7 @@ put_byte_more before bytes at i middle next after end h p q = rw (add-one i, tak
 pub put_byte_room : (before bytes : List ℕ) (at i b : ℕ) (middle : List ℕ) (next : ℕ) → i < length bytes → Room at bytes → Put before at (take i bytes) middle next → Room next (b ∷ [])
 put_byte_room before bytes at i b middle next h r p = record { below = omega (arith, r.below, p.end, length-take-le i bytes (omega arith)) }
 
-pub put_byte_all : (before bytes : List ℕ) (at i : ℕ) (after : List ℕ) (end : ℕ) → length bytes ≤ i → i ≤ length bytes → Put before at (take i bytes) after end → Put before at bytes after end
-put_byte_all before bytes at i after end h k p = let e : i ≡ length bytes = omega arith in rw (e, take-length bytes) at p
-
 -- ---- the digits of a number
-
-pub room_digit : (at x : ℕ) → x < 10 → Room at (decimal x) → Room at ((48 + x) ∷ [])
-room_digit at x h r = rw (decimal_digit x h) at r
-
-pub put_digit : (before : List ℕ) (at x : ℕ) (after : List ℕ) (end : ℕ) → x < 10 → Put before at ((48 + x) ∷ []) after end → Put before at (decimal x) after end
-put_digit before at x after end h p = rw (decimal_digit x h) p
 
 pub room_tenth : (at x : ℕ) → 10 ≤ x → Room at (decimal x) → Room at (decimal (x / 10))
 room_tenth at x h r = room_first at (decimal (x / 10)) ((48 + x % 10) ∷ []) (rw (decimal_more x h) at r)
@@ -219,10 +210,6 @@ module _ (before : List ℕ) (at a b c d : ℕ) (r : Room at (line a b c d)) whe
 -- ---- the two texts
 
 module _ (before : List ℕ) (number : ℕ) (r : Room 0 (refused_text number)) where
-  pub refused_word_lem : Room 0 refused_word
-  unfolding refused_text
-  refused_word_lem = room_first 0 refused_word (followed number line_feed) r
-
   module _ (text₁ : List ℕ) (at₁ : ℕ) (p₁ : Put before 0 refused_word text₁ at₁) where
     pub refused_number : Room at₁ (followed number line_feed)
     unfolding refused_text
@@ -238,10 +225,6 @@ module _ (before : List ℕ) (days : ℕ) (ends colors : List ℕ) (r : Room 0 (
 
   abbrev L : List ℕ
   L = edge_lines ends colors (edge_count ends)
-
-  pub days_word_lem : Room 0 days_word
-  unfolding days_text
-  days_word_lem = room_first 0 days_word N (first_two before 0 days_word N L r)
 
   module _ (text₁ : List ℕ) (at₁ : ℕ) (p₁ : Put before 0 days_word text₁ at₁) where
     pub days_number : Room at₁ N
@@ -286,9 +269,6 @@ module _ (ends colors : List ℕ) where
   pub line_none : (text : List ℕ) (at : ℕ) → Put text at (edge_lines ends colors 0) text at
   unfolding edge_lines
   line_none text at = put_none text at
-
-  pub line_all : (before : List ℕ) (at k m : ℕ) (after : List ℕ) (end : ℕ) → m ≤ k → k ≤ m → Put before at (edge_lines ends colors k) after end → Put before at (edge_lines ends colors m) after end
-  line_all before at k m after end h h' p = let e : k ≡ m = omega arith in rw e at p
 
   pub line_room : (before : List ℕ) (at k m : ℕ) (middle : List ℕ) (next : ℕ) → k < m → Room at (edge_lines ends colors m) → Put before at (edge_lines ends colors k) middle next → Room next (edge_line ends colors k)
   line_room before at k m middle next h r p = record { below = omega (arith, r.below, p.end, lines_rise k m h) }

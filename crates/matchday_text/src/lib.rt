@@ -1,7 +1,7 @@
 // The text that the program prints for a graph and for a file.
 #![tactic(auto)]
 
-ghost use Rattle.std.specs.Prelude.{◌≡◌, ◌/◌, min, length};
+ghost use Rattle.std.specs.Prelude.{◌≡◌, length};
 ghost use Rattle.lists.specs.Parts.{copied_over};
 ghost use Rattle.vizing.specs.MisraGries.{misra_gries};
 ghost use Rattle.matchday_text.specs.Text.{outcome_text, colored_text, file_text, PassesOver};
@@ -27,17 +27,6 @@ fn outcome_text(n: usize, ends: &[u16], colors: &mut [u16], text: &mut [u8]) -> 
     }
 }
 
-// The edges that a list of this many ends has, 4,096 at most: a longer list is refused whatever is lent.
-fn lent_places(ends: usize) -> usize
-    ensures answer { result ≡ min (ends / 2) 4096 }
-{
-    let edges = ends / 2;
-    if edges < Graph::MAX_EDGES {
-        return edges;
-    }
-    Graph::MAX_EDGES
-}
-
 // The text of a graph: as much of it as there is room for, and its whole length.
 fn graph_text(n: usize, ends: &[u16], text: &mut [u8]) -> usize
     ensures answer { result ≡ length (colored_text n ends.now) }
@@ -45,7 +34,8 @@ fn graph_text(n: usize, ends: &[u16], text: &mut [u8]) -> usize
         text.new ≡ copied_over (colored_text n ends) text₀ }
 {
     let mut colors = [Color::NONE; Graph::MAX_EDGES];
-    let m = lent_places(ends.len());
+    // A list with more edges is refused whatever is lent.
+    let m = (ends.len() / 2).min(Graph::MAX_EDGES);
     outcome_text(n, ends, &mut colors[..m], text)
 }
 

@@ -10,15 +10,12 @@ use edge_walk::end_at;
 use graph::{Color, EdgeIndex, NodeIndex};
 
 // The colour of an edge, 65,535 beyond the list.
+#[tactic(auto, unfolding(graph::specs::Colored::color_of))]
 fn color_at(colors: &[u16], edge: EdgeIndex) -> usize
     ensures answer { result ≡ color_of colors.now edge.0 }
 {
     let k = edge.0 as usize;
-    if k < colors.len() {
-        colors[k] as usize
-    } else {
-        Color::NONE as usize
-    }
+    usize::from(colors.get(k).copied().unwrap_or(Color::NONE))
 }
 
 // The line of these four numbers.
@@ -61,10 +58,8 @@ fn put_edges(text: &mut [u8], at: usize, ends: &[u16], colors: &[u16]) -> usize
 {
     let m = ends.len() / 2;
     let mut next = at;
-    let mut k = 0;
-    while k < m {
+    for k in 0..m {
         next = put_edge(text, next, ends, colors, EdgeIndex(k as u16));
-        k += 1;
     }
     next
 }

@@ -1,9 +1,6 @@
 -- `put_days` meets its contract: the word, the days, then the lines.
-use Rattle.matchday_text.proofs.PutLaws.{days_word_lem, days_number, days_lines, days_put}
+use Rattle.matchday_text.proofs.PutLaws.{days_number, days_lines, days_put}
 use Rattle.matchday_text.proofs.lines.put_days.Goals as goal
-
-pub put_bytes-a-requires : goal.put_bytes-a-requires
-put_bytes-a-requires c = days_word_lem c.args.text.now _ _ _ c.requires.room
 
 pub put_number-b-requires : goal.put_number-b-requires
 put_number-b-requires c = days_number _ _ _ _ c.requires.room _ _ c.put_bytes-a.ensures.put

@@ -1,9 +1,6 @@
 -- `put_refused` meets its contract: the word, then the number.
-use Rattle.matchday_text.proofs.PutLaws.{refused_word_lem, refused_number, refused_put}
+use Rattle.matchday_text.proofs.PutLaws.{refused_number, refused_put}
 use Rattle.matchday_text.proofs.lines.put_refused.Goals as goal
-
-pub put_bytes-a-requires : goal.put_bytes-a-requires
-put_bytes-a-requires c = refused_word_lem c.args.text.now _ c.requires
 
 pub put_number-requires : goal.put_number-requires
 put_number-requires c = refused_number _ _ c.requires _ _ c.put_bytes-a.ensures.put

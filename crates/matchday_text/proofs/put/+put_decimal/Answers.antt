@@ -1,10 +1,7 @@
 -- `put_decimal` meets its contract: the digits of a tenth of the number, then its last digit. The measure is the number.
 use native.Mathlib.Omega.{arith}
-use Rattle.matchday_text.proofs.PutLaws.{room_digit, room_tenth, room_last, put_last}
+use Rattle.matchday_text.proofs.PutLaws.{room_tenth, room_last, put_last}
 use Rattle.matchday_text.proofs.put.+put_decimal.Goals as goal
-
-pub put-requires : goal.put-requires
-put-requires t c = room_digit _ c.args.x (omega arith) c.requires
 
 pub put_decimal-next-requires : goal.put_decimal-next-requires
 put_decimal-next-requires t c = (omega arith, room_tenth _ _ (omega arith) c.requires)
