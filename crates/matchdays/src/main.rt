@@ -17,7 +17,8 @@ fn text_of(buffer: &[u8], count: usize, text: &mut [u8]) -> usize
     matchday_text(&buffer[..count], text)
 }
 
-// Reads until the buffer is full, the input ends or a read fails, and gives how many bytes were read.
+// Reads until the buffer is full, the input ends or a read fails, and gives how many bytes were read. No `for` says it: how far a read
+// goes is for the input to say.
 fn read_full(rt: &impl Input, buffer: &mut [u8]) -> usize
     ensures { result ≤ length buffer.new }
 {

@@ -2,12 +2,8 @@
 use mathlib.Core.Path.{sym}
 use native.Mathlib.Omega.{arith}
 use lib.Seq.{length-take-le}
-use borrow.Author.Rules.{rules}
 use Rattle.matchday_text.proofs.CallLaws.{text_fits}
 use Rattle.matchdays.proofs.main.Goals as goal
-
-pub text_of-length-requires : goal.text_of-length-requires
-text_of-length-requires c = search rules
 
 pub slice_bounds-text-end : goal.slice_bounds-text-end
 slice_bounds-text-end c = omega (arith, text_fits _ _ c.text_of-length.ensures.answer)
