@@ -1,6 +1,6 @@
 -- Laws of the marks: the items around one, what is stored for them, and where a colour stands.
 use Prim.Native.Nat.{ℕ, ◌+◌, ◌<◌, ◌≤◌, zero, suc}
-use mathlib.Core.Path.{◌≡◌, refl, sym, ◌∙◌, ap}
+use mathlib.Core.Path.{◌≡◌, refl, sym, ◌∙◌}
 use mathlib.Core.List.{List, [], ◌∷◌, ◌++◌}
 use native.Mathlib.Numerals.{add-one}
 use lib.ListN.{length, get_or, take, set, length-set, replicate, length-replicate, get_or-replicate}
@@ -150,9 +150,6 @@ module _ (kind : Kind) (ends starts entries colors : List ℕ) (c : ℕ) where
   pub asked_outside : (at : List Note) (w : ℕ) → Asked kind ends starts entries colors c at → (r : Bool) → r ≡ stands_at kind ends colors c w (stretch starts entries w) → (r ≡ stands kind ends starts entries colors c w) × Asked kind ends starts entries colors c at
   unfolding stands
   asked_outside at w p r q = (q, p)
-
-  pub asked_before : (at : List Note) (w : ℕ) (x : Note) → Asked kind ends starts entries colors c at → w < length at → get_or at w NotAsked ≡ x → (x ≡ NotAsked → ⊥) → (says_stands x ≡ stands kind ends starts entries colors c w) × Asked kind ends starts entries colors c at
-  asked_before at w x p h e n = (ap says_stands (sym e) ∙ p.answer w h (λ z. n (sym e ∙ z)), p)
 
   module _ (at : List Note) (w : ℕ) (p : Asked kind ends starts entries colors c at) (h : w < length at) (r : Bool) (q : r ≡ stands_at kind ends colors c w (stretch starts entries w)) where
     pub asked_yes : r ≡ true → (r ≡ stands kind ends starts entries colors c w) × Asked kind ends starts entries colors c (set at w Stands)

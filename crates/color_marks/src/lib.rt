@@ -67,20 +67,12 @@ fn ask(
         (result ≡ stands kind ends starts entries colors color.0 node.0) × Asked kind ends starts entries colors color.0 at.new }
 {
     let w = node.0 as usize;
-    if at.len() <= w {
-        return stands_at(
-            kind,
-            ends,
-            edges_at(starts, entries, node),
-            colors,
-            node,
-            color,
-        );
-    }
-    match at[w] {
-        Note::Stands => return true,
-        Note::Absent => return false,
-        Note::NotAsked => {}
+    if w < at.len() {
+        match at[w] {
+            Note::Stands => return true,
+            Note::Absent => return false,
+            Note::NotAsked => {}
+        }
     }
     let stands = stands_at(
         kind,
@@ -90,7 +82,9 @@ fn ask(
         node,
         color,
     );
-    at[w] = if stands { Note::Stands } else { Note::Absent };
+    if w < at.len() {
+        at[w] = if stands { Note::Stands } else { Note::Absent };
+    }
     stands
 }
 
