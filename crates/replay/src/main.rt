@@ -10,6 +10,7 @@ use replay_output::Output;
 fn run(rt: &(impl Input + Print), given: &mut Given, lent: &mut Lent) {
     let mut reader = Reader::new(rt);
     let mut output = Output::new(rt);
+    // Only the input tells how many lines there are.
     while reader.left > 0 {
         let line = reader.read_line(given, lent);
         call(&mut output, given.case(), line, lent);

@@ -78,6 +78,7 @@ impl<'a, I: Input> Reader<'a, I> {
     pub(crate) fn skip_line(&mut self)
         ensures { self.new.left ≤ self.old.left - 1 }
     {
+        // Only the input tells where the line ends.
         while self.left > 0 && self.byte != b'\n' {
             self.advance();
         }
@@ -107,6 +108,7 @@ impl<'a, I: Input> Reader<'a, I> {
             self.advance();
         }
         let mut value: usize = 0;
+        // Only the input tells where the number ends.
         while self.left > 0 && self.byte.is_ascii_digit() {
             value = value
                 .saturating_mul(10)
