@@ -7,5 +7,5 @@ mod file;
 mod strategy;
 
 pub use count::answer_count;
-pub use file::answer_file;
+pub use file::{FileNumbers, answer_file, numbers_of};
 pub use strategy::{strategy_of, unknown_strategy};

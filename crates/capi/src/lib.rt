@@ -15,7 +15,7 @@ ghost use Rattle.days.specs.FewerDays.{fewer_days};
 ghost use Rattle.c_answer.specs.Answer.{Answered};
 ghost use Rattle.capi.specs.Strategy.{nodes_by_number, edges_by_number};
 
-use c_answer::{answer_count, answer_file, strategy_of, unknown_strategy};
+use c_answer::{answer_count, answer_file, numbers_of, strategy_of, unknown_strategy};
 use days::fewer_days_part;
 
 #[unsafe(no_mangle)]
@@ -194,7 +194,7 @@ pub extern "C" fn wg_read_graph_file(
         (nodes.new, edges.new, tags.new, method.new) (ends.new, colors.new) }
 {
     answer_file(
-        wulgranite::read_graph_file(bytes, ends, colors),
+        numbers_of(wulgranite::read_graph_file(bytes, ends, colors)),
         nodes,
         edges,
         tags,

@@ -40,17 +40,18 @@ degrees_next nb degrees v d known h e u b = elim (dec_eq u v) [
   | inr o ↦ get_or-set_other degrees v u d 0 o ∙ known u (omega (arith, o))
 ]
 
-pub nodes_room : (n : ℕ) (ends : List ℕ) → Passed n ends → OrderRoom Nodes n ends (replicate 512 0) (replicate 4100 0) (replicate 512 0)
+-- A node has at most 4,096 neighbours.
+pub nodes_room : (top : ℕ) → 4097 ≤ top → (n : ℕ) (ends : List ℕ) → Passed n ends → OrderRoom Nodes n ends (replicate 512 0) (replicate top 0) (replicate 512 0)
 unfolding neighbors_of
-nodes_room n ends passed = record {
+nodes_room top enough n ends passed = record {
   degrees_room = rw (length-replicate {A = ℕ} 512 0) passed.nodes;
   order_room = rw (length-replicate {A = ℕ} 512 0) passed.nodes;
-  counts_room = λ v h. rw (length-replicate {A = ℕ} 4100 0) (omega (arith, passed_degree n ends passed v));
-  zeros = zeros_at 4100;
+  counts_room = λ v h. rw (length-replicate {A = ℕ} top 0) (omega (arith, passed_degree n ends passed v));
+  zeros = zeros_at top;
 }
 
 -- At each end stand at most m edges, the edge itself among them.
-edge_few : (n : ℕ) (ends : List ℕ) → Passed n ends → (k : ℕ) → k < edge_count ends → length (neighbors_of Edges n ends k) < 8192
+edge_few : (n : ℕ) (ends : List ℕ) → Passed n ends → (k : ℕ) → k < edge_count ends → length (neighbors_of Edges n ends k) < 8191
 unfolding neighbors_of
 edge_few n ends passed k h =
     let m = edge_count ends in
@@ -60,12 +61,13 @@ edge_few n ends passed k h =
       | inr d ↦ omega (arith, line_neighbor_count ends m k h d, first, degree_bound ends m (second_end ends k), passed.edges)
     ])
 
-pub edges_room : (n : ℕ) (ends : List ℕ) → Passed n ends → OrderRoom Edges n ends (replicate 4096 0) (replicate 8192 0) (replicate 4096 0)
-edges_room n ends passed = record {
+-- An edge has at most 4,095 neighbours at each end.
+pub edges_room : (top : ℕ) → 8191 ≤ top → (n : ℕ) (ends : List ℕ) → Passed n ends → OrderRoom Edges n ends (replicate 4096 0) (replicate top 0) (replicate 4096 0)
+edges_room top enough n ends passed = record {
   degrees_room = rw (length-replicate {A = ℕ} 4096 0) passed.edges;
   order_room = rw (length-replicate {A = ℕ} 4096 0) passed.edges;
-  counts_room = λ k h. rw (length-replicate {A = ℕ} 8192 0) (edge_few n ends passed k h);
-  zeros = zeros_at 8192;
+  counts_room = λ k h. rw (length-replicate {A = ℕ} top 0) (omega (arith, edge_few n ends passed k h));
+  zeros = zeros_at top;
 }
 
 -- ---- the order of items whose degrees are known
