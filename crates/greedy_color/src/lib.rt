@@ -70,16 +70,11 @@ pub fn greedy_node_color_with_coloring_strategy(
     ensures proper { let ends = ends.entry.now in let presets = presets.entry.now in
         ProperNodeColoring n ends presets (report_of result) colors.new }
 {
+    let nodes = Kind::Nodes;
     match strategy {
-        ColoringStrategy::Degree => degree::color(Kind::Nodes, n, ends, presets, colors),
-        ColoringStrategy::Saturation => saturation::color(Kind::Nodes, n, ends, presets, colors),
-        ColoringStrategy::IndependentSet => independent_set::color(
-            Kind::Nodes,
-            n,
-            ends,
-            presets,
-            colors,
-        ),
+        ColoringStrategy::Degree => degree::color(nodes, n, ends, presets, colors),
+        ColoringStrategy::Saturation => saturation::color(nodes, n, ends, presets, colors),
+        ColoringStrategy::IndependentSet => independent_set::color(nodes, n, ends, presets, colors),
     }
 }
 
@@ -121,15 +116,10 @@ pub fn greedy_edge_color_with_coloring_strategy(
     ensures proper { let ends = ends.entry.now in let presets = presets.entry.now in
         ProperEdgeColoring ends presets (report_of result) colors.new }
 {
+    let edges = Kind::Edges;
     match strategy {
-        ColoringStrategy::Degree => degree::color(Kind::Edges, n, ends, presets, colors),
-        ColoringStrategy::Saturation => saturation::color(Kind::Edges, n, ends, presets, colors),
-        ColoringStrategy::IndependentSet => independent_set::color(
-            Kind::Edges,
-            n,
-            ends,
-            presets,
-            colors,
-        ),
+        ColoringStrategy::Degree => degree::color(edges, n, ends, presets, colors),
+        ColoringStrategy::Saturation => saturation::color(edges, n, ends, presets, colors),
+        ColoringStrategy::IndependentSet => independent_set::color(edges, n, ends, presets, colors),
     }
 }
