@@ -1,2 +1,3 @@
 -- Laws of what specs/ defines.
 pub mod AnswerLaws
+pub mod StrategyLaws

@@ -7,7 +7,6 @@ use graph::{Graph, Refusal};
 use greedy::ColoringStrategy;
 
 // What a number names. No `TryFrom`: the strategies are greedy's, and the numbers C's.
-#[tactic(auto, unfolding(crate::specs::Strategy::strategy_of))]
 pub fn strategy_of(number: u8) -> Option<ColoringStrategy>
     ensures answer { strategy_named result ≡ strategy_of number }
 {
