@@ -1,19 +1,33 @@
 // A graph with its incidence table, in lent slices.
-ghost use Rattle.std.specs.Prelude.{◌≡◌, ◌≤◌, ◌<◌, length};
+ghost use Rattle.std.specs.Prelude.{◌≡◌, [], ◌≤◌, ◌<◌, length};
 
 use crate::incidence_front;
 use edge_walk::IncidenceTable;
 use graph::CheckedGraph;
 
-// The graph beside its table, which is made at the front of these slices.
+// The graph beside its table, which is made at the front of these slices. Slices without room for it stay as lent, and the table is
+// then that of the graph without nodes; so it asks for nothing.
 pub fn incidence_table<'a>(
     graph: CheckedGraph<'a>,
     starts: &'a mut [u16],
     entries: &'a mut [u16],
 ) -> IncidenceTable<'a>
-    requires room { (graph.nodes < length starts.old) × (length graph.ends.now ≤ length entries.old) }
-    ensures graph { let graph = graph.entry in (result.nodes ≡ graph.nodes) × (result.ends ≡ graph.ends) }
+    ensures graph { let graph = graph.entry in let starts₀ = starts.old in let entries₀ = entries.old in
+        (graph.nodes < length starts₀ → length graph.ends.now ≤ length entries₀
+        → (result.nodes ≡ graph.nodes) × (result.ends ≡ graph.ends)) }
+    ensures few_starts { let graph = graph.entry in let starts₀ = starts.old in
+        (length starts₀ ≤ graph.nodes → (result.nodes ≡ 0) × (result.ends.now ≡ [])) }
+    ensures few_entries { let graph = graph.entry in let entries₀ = entries.old in
+        (length entries₀ < length graph.ends.now → (result.nodes ≡ 0) × (result.ends.now ≡ [])) }
 {
+    if starts.len() <= graph.nodes || entries.len() < graph.ends.len() {
+        return IncidenceTable {
+            nodes: 0,
+            ends: &graph.ends[..0],
+            starts,
+            entries,
+        };
+    }
     incidence_front(graph.nodes, graph.ends, starts, entries);
     IncidenceTable {
         nodes: graph.nodes,

@@ -7,7 +7,7 @@ use Rattle.degree.proofs.color_checked.Goals as goal
 
 pub color_in_order-requires-clause-waiting : goal.color_in_order-requires-clause-waiting
 color_in_order-requires-clause-waiting g c =
-    let t = c.incidence_table-table.ensures.graph in
+    let t = c.incidence_table-table.ensures.graph (omega (arith, c.args.graph.passed.nodes)) (omega (arith, c.args.graph.passed.even, c.args.graph.passed.edges)) in
     let k = c.new-items.ensures.same in
     let count : c.new-items.result.count ≡ items_of c.args.kind c.args.graph.nodes c.args.graph.ends.now = rw (t.0, t.1) at c.new-items.ensures.count in
     let known = rw (k.0, k.1, t.0, t.1) at c.note_degrees.ensures.degrees in
@@ -16,7 +16,7 @@ color_in_order-requires-clause-waiting g c =
 
 pub returns-clause-colors : goal.returns-clause-colors
 returns-clause-colors g c =
-    let t = c.incidence_table-table.ensures.graph in
+    let t = c.incidence_table-table.ensures.graph (omega (arith, c.args.graph.passed.nodes)) (omega (arith, c.args.graph.passed.even, c.args.graph.passed.edges)) in
     let k = c.new-items.ensures.same in
     let count : c.new-items.result.count ≡ items_of c.args.kind c.args.graph.nodes c.args.graph.ends.now = rw (t.0, t.1) at c.new-items.ensures.count in
     let known = rw (k.0, k.1, t.0, t.1) at c.note_degrees.ensures.degrees in

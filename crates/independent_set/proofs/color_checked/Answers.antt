@@ -1,5 +1,6 @@
 -- `color_checked` meets its contract: the rounds start from the presets and the items without one.
 use Rattle.std.proofs.Common.{◌∙◌, sym, ap}
+use native.Mathlib.Omega.{arith}
 use Rattle.lists.proofs.PartsLaws.{copied_same}
 use Rattle.greedy.specs.IndependentSet.{Lists}
 use Rattle.independent_set.proofs.RoundsLaws.{colors_answer, uncolored_below}
@@ -8,7 +9,7 @@ use Rattle.independent_set.proofs.color_checked.Goals as goal
 pub color_rounds-requires : goal.color_rounds-requires
 color_rounds-requires c =
     let same = c.new-items.ensures.same in
-    let graph = c.incidence_table-table.ensures.graph in
+    let graph = c.incidence_table-table.ensures.graph (omega (arith, c.args.graph.passed.nodes)) (omega (arith, c.args.graph.passed.even, c.args.graph.passed.edges)) in
     let count = sym (rw (same.0, same.1, graph.0, graph.1) at c.new-items.result.counted) in
     let len = c.requires.presets_len in
     record {
@@ -20,7 +21,7 @@ color_rounds-requires c =
 pub returns : goal.returns
 returns c =
     let same = c.new-items.ensures.same in
-    let graph = c.incidence_table-table.ensures.graph in
+    let graph = c.incidence_table-table.ensures.graph (omega (arith, c.args.graph.passed.nodes)) (omega (arith, c.args.graph.passed.even, c.args.graph.passed.edges)) in
     let count = rw (same.0, same.1, graph.0, graph.1) at c.new-items.result.counted in
     let len = c.requires.presets_len in
     let rounds = rw (count, same.0, same.1, graph.0, graph.1) at c.color_rounds.ensures.colors in
