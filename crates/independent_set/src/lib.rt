@@ -18,7 +18,9 @@ mod list;
 mod nodes;
 mod rounds;
 
-// The items of a graph that passed the checks, with a preset and a colour for each.
+// The items of a graph that passed the checks, with a preset and a colour for each. Not written in: its arrays leave the stack before the days
+// are counted.
+#[inline(never)]
 fn color_checked(kind: Kind, graph: CheckedGraph, presets: &[u16], colors: &mut [u16])
     requires presets_len { (length presets.now ≡ items_of kind graph.nodes graph.ends.now) × (length colors.old ≡ items_of kind graph.nodes graph.ends.now) }
     ensures colors { let graph = graph.entry in let presets = presets.entry.now in
