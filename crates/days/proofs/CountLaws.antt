@@ -1,22 +1,20 @@
--- Laws of counting: the numbers within bounds, as the code goes over a list.
-use Prim.Native.Nat.{ℕ, suc, ◌+◌, ◌-◌, ◌≤◌, ◌<◌}
+-- Laws of counting: the numbers within bounds, from the back of the list on.
+use Prim.Native.Nat.{ℕ, zero, suc, ◌+◌, ◌-◌, ◌≤◌, ◌<◌}
 use mathlib.Core.Path.{◌≡◌, refl, sym, ap, subst, ◌∙◌}
 use mathlib.Core.Logic.{◌⊎◌, inl, inr, ◌≢◌}
-use mathlib.Core.List.{List, [], ◌∷◌, ◌++◌, map, append-nil}
-use mathlib.Core.Bool.{Bool, true, false, ◌||◌}
+use mathlib.Core.List.{List, [], ◌∷◌, ◌++◌, map}
+use mathlib.Core.Bool.{Bool, true, false}
 use native.Mathlib.Omega.{arith}
 use native.Mathlib.Decide.{dec_lt}
-use native.Mathlib.Numerals.{add-one}
-use lib.Dec.{eqb}
-use lib.ListN.{length, length-map, length-set, length-drop, drop, take, get_or, set, take-append-drop, drop_of_length-le}
-use lib.Seq.{drop-cons, take_all, take-suc-set, get_or-set_same, get_or-set_other}
-use borrow.Author.Tests.{lt-ltb, le-ltb, eq-eqb, ne_eqb}
-use Rattle.std.specs.List.{list_any}
-use Rattle.std.proofs.lemmas.List.{take_more}
+use Rattle.std.specs.Prelude.{MatchBool}
+use lib.ListN.{length, length-map, length-set, length-drop, length-append, drop, take, get_or, set}
+use lib.Seq.{drop-length, drop-set-lt, take_all, take-take, get_or-take, get_or-append_seam, take-append_seam, get_or-set_same, get_or-set_other}
+use borrow.Author.Tests.{lt-ltb, le-ltb, ne_eqb}
 use Rattle.lists.proofs.Tests.{dec_eq}
 use Rattle.lists.specs.Member.{Mem, elem}
 use Rattle.lists.specs.Different.{distinct, different}
-use Rattle.lists.proofs.MemberLaws.{elem_true, elem_false, mem_elem, not_mem_elem, mem_append, mem_append_left, mem_append_right, place_of_lem, pigeonhole, below, mem_below, length_below, mem_map, dec_mem, distinct_member, distinct_nodup, different_same, different_new, different_le, different_none}
+use Rattle.lists.proofs.MemberLaws.{elem_true, elem_false, mem_elem, not_mem_elem, mem_get_or, place_of_lem, pigeonhole, below, mem_below, length_below, mem_map, dec_mem, distinct_member, distinct_nodup, different_same, different_new, different_le, different_none}
+use Rattle.lists.proofs.PartsLaws.{drop_back, drop_none}
 use Rattle.graph.specs.Color.{no_color, days_of, colors_in}
 use Rattle.days.proofs.DaysLaws.{color_member, member_color}
 use Rattle.days.specs.Within.{within}
@@ -119,127 +117,124 @@ within_days b cs (small, below) = different_same (within 0 b cs) (colors_in cs)
 pub parted_days : (split b : ℕ) (cs : List ℕ) → split ≤ no_color → (b ≤ no_color) × ((c : ℕ) → Mem c cs → c ≢ no_color → c < b) → different (within 0 split cs) + different (within split no_color cs) ≡ days_of cs
 parted_days split b cs h (small, below) = within_sum split no_color cs h ∙ within_days no_color cs (omega arith, λ c p n. omega (arith, small, below c p n))
 
--- ---- counting from the front, as the code does
+-- ---- counting from the back, as the code does
 
-take_member : (i : ℕ) (cs : List ℕ) (c : ℕ) → Mem c (take i cs) → Mem c cs
-take_member i cs c p = rw take-append-drop at (mem_append_left c (take i cs) (drop i cs) p)
+drop_member : (i : ℕ) (cs : List ℕ) (c : ℕ) → Mem c (drop i cs) → Mem c cs
+drop_member zero cs c p = p
+drop_member (suc i) [] c p = p
+drop_member (suc i) (x ∷ cs) c p = inr (drop_member i cs c p)
 
--- A number behind a list adds to it what it adds in front.
-module _ (xs : List ℕ) (c : ℕ) where
-  to_front : (k : ℕ) → Mem k (xs ++ c ∷ []) → Mem k (c ∷ xs)
-  to_front k p = elim (mem_append k xs (c ∷ []) p) [ inl q ↦ inr q | inr q ↦ elim q [ inl e ↦ inl e | inr z ↦ absurd z ] ]
+-- Left to go over are a list's first numbers, and the next one is the last of them.
+module _ (colors left rest : List ℕ) (c : ℕ) (front : left ≡ take (length left) colors) (next : left ≡ rest ++ c ∷ []) where
+  pub left_some : 0 < length left
+  left_some = rw next (omega (arith, length-append rest (c ∷ [])))
 
-  to_back : (k : ℕ) → Mem k (c ∷ xs) → Mem k (xs ++ c ∷ [])
-  to_back k (inl e) = mem_append_right k xs (c ∷ []) (inl e)
-  to_back k (inr q) = mem_append_left k xs (c ∷ []) q
+  pub rest_length : length rest ≡ length left - 1
+  rest_length = rw next (omega (arith, length-append rest (c ∷ [])))
 
-  within_front : (lo hi : ℕ) → different (within lo hi (xs ++ c ∷ [])) ≡ different (within lo hi (c ∷ xs))
-  within_front lo hi = different_same (within lo hi (xs ++ c ∷ [])) (within lo hi (c ∷ xs))
-      (λ k p. let r = within_member lo hi (xs ++ c ∷ []) k p in member_within lo hi (c ∷ xs) k (to_front k r.0) r.1 r.2)
-      (λ k p. let r = within_member lo hi (c ∷ xs) k p in member_within lo hi (xs ++ c ∷ []) k (to_back k r.0) r.1 r.2)
+  pub rest_front : rest ≡ take (length rest) colors
+  rest_front =
+      let shorter : take (length rest) left ≡ rest = rw next (take-append_seam rest (c ∷ [])) in
+      let same : take (length rest) (take (length left) colors) ≡ take (length rest) colors = take-take (length rest) (length left) colors (omega (arith, left_some, rest_length)) in
+      sym shorter ∙ (ap (take (length rest)) front ∙ same)
 
-  elem_front : (k : ℕ) → elem k (xs ++ c ∷ []) ≡ elem k (c ∷ xs)
-  elem_front k = elim (dec_mem k (c ∷ xs)) [
-    | inl p ↦ mem_elem k (xs ++ c ∷ []) (to_back k p) ∙ sym (mem_elem k (c ∷ xs) p)
-    | inr n ↦ not_mem_elem k (xs ++ c ∷ []) (λ p. n (to_front k p)) ∙ sym (not_mem_elem k (c ∷ xs) n)
-  ]
+  pub next_last : get_or colors (length left - 1) 0 ≡ c
+  next_last =
+      let here : get_or left (length rest) 0 ≡ c = rw next (get_or-append_seam rest c [] 0) in
+      let same : get_or (take (length left) colors) (length rest) 0 ≡ get_or colors (length rest) 0 = get_or-take (length left) colors (length rest) 0 (omega (arith, left_some, rest_length)) in
+      ap (λ (i : ℕ). get_or colors i 0) (sym rest_length) ∙ (sym same ∙ (ap (λ (l : List ℕ). get_or l (length rest) 0) (sym front) ∙ here))
 
--- The first i numbers are counted: the marks say which stand there.
+pub left_all : (colors : List ℕ) → colors ≡ take (length colors) colors
+left_all colors = sym (take_all (length colors) colors (omega arith))
+
+-- The numbers from place i on are counted: the marks say which stand there.
 pub record Counted (colors : List ℕ) (from size i days : ℕ) (marks : List Bool) : Type 0 where
+  pub inside : i ≤ length colors
   pub sized : length marks ≡ size
-  pub counted : days ≡ different (within from (from + size) (take i colors))
-  pub marked : (j : ℕ) → j < size → get_or marks j false ≡ elem (from + j) (take i colors)
+  pub counted : days ≡ different (within from (from + size) (drop i colors))
+  pub marked : (j : ℕ) → j < size → get_or marks j false ≡ elem (from + j) (drop i colors)
 
-pub counted_start : (colors : List ℕ) (from : ℕ) (marks : List Bool) → ((i : ℕ) → get_or marks i false ≡ false) → Counted colors from (length marks) 0 0 marks
+pub counted_start : (colors : List ℕ) (from : ℕ) (marks : List Bool) → ((i : ℕ) → get_or marks i false ≡ false) → Counted colors from (length marks) (length colors) 0 marks
 unfolding within
 counted_start colors from marks clear = record {
+  inside = omega arith;
   sized = refl;
-  counted = sym different_none;
-  marked = λ j h. clear j ∙ sym (not_mem_elem (from + j) [] (λ p. p));
+  counted = rw (drop-length colors) (sym different_none);
+  marked = λ j h. clear j ∙ sym (not_mem_elem (from + j) (drop (length colors) colors) (rw (drop-length colors) (λ p. p)));
 }
 
 module _ {colors : List ℕ} {from size i days : ℕ} {marks : List Bool} (C : Counted colors from size i days marks) where
   -- There are no more days than marks.
   pub counted_bound : days ≤ size
-  counted_bound = omega (arith, C.counted, within_bound from (from + size) (take i colors))
+  counted_bound = omega (arith, C.counted, within_bound from (from + size) (drop i colors))
 
   -- All marks are set: the rest of the list has nothing else.
   pub counted_full : days ≡ length marks → days ≡ different (within from (from + size) colors)
-  counted_full e = omega (arith, C.sized, C.counted, within_bound from (from + size) colors, within_more from (from + size) (take i colors) colors (take_member i colors))
+  counted_full e = omega (arith, C.sized, C.counted, within_bound from (from + size) colors, within_more from (from + size) (drop i colors) colors (drop_member i colors))
 
-  pub counted_all : length colors ≤ i → days ≡ different (within from (from + size) colors)
-  counted_all h = rw (take_all i colors h) at C.counted
+  pub counted_all : i ≤ 0 → days ≡ different (within from (from + size) colors)
+  counted_all = drop_none (λ (l : List ℕ). different (within from (from + size) l)) colors i days C.counted
 
-  module _ (inside : i < length colors) where
-    -- The number at place i.
-    abbrev x : ℕ
-    x = get_or colors i 0
-
-    counting : different (within from (from + size) (take (i + 1) colors)) ≡ different (within from (from + size) (x ∷ take i colors))
-    counting = rw (take_more colors i 0 inside) (within_front (take i colors) x from (from + size))
-
-    marking : (k : ℕ) → elem k (take (i + 1) colors) ≡ elem k (x ∷ take i colors)
-    marking k = rw (take_more colors i 0 inside) (elem_front (take i colors) x k)
+  module _ (some : 0 < i) where
+    at : drop (i - 1) colors ≡ get_or colors (i - 1) 0 ∷ drop i colors
+    at = drop_back colors i some C.inside
 
     -- A number that sets no mark, or one that is set.
-    passed : ((x < from) ⊎ (from + size ≤ x)) ⊎ Mem x (take i colors) → Counted colors from size (i + 1) days marks
-    passed o = record {
+    passed : (c : ℕ) → c ≡ get_or colors (i - 1) 0 → ((c < from) ⊎ (from + size ≤ c)) ⊎ Mem c (drop i colors) → Counted colors from size (i - 1) days marks
+    passed c e o = record {
+      inside = omega (arith, C.inside);
       sized = C.sized;
-      counted = C.counted ∙ sym (counting ∙ elim o [ inl p ↦ ap different (within_out from (from + size) x (take i colors) p) | inr p ↦ within_again from (from + size) x (take i colors) p ]);
-      marked = λ j h. C.marked j h ∙ sym (marking (from + j) ∙ elem_cons j h);
+      counted = C.counted ∙ sym (rw (at, sym e) (elim o [ inl p ↦ ap different (outside p) | inr p ↦ within_again from (from + size) c (drop i colors) p ]));
+      marked = λ j h. C.marked j h ∙ sym (rw (at, sym e) (elem_cons j h));
     }
       where
-        elem_cons : (j : ℕ) → j < size → elem (from + j) (x ∷ take i colors) ≡ elem (from + j) (take i colors)
-        elem_cons j h = elim (dec_eq (from + j) x) [
+        outside : (c < from) ⊎ (from + size ≤ c) → within from (from + size) (c ∷ drop i colors) ≡ within from (from + size) (drop i colors)
+        outside (inl p) = within_low from (from + size) c (drop i colors) p
+        outside (inr p) = within_high from (from + size) c (drop i colors) (omega arith) p
+
+        elem_cons : (j : ℕ) → j < size → elem (from + j) (c ∷ drop i colors) ≡ elem (from + j) (drop i colors)
+        elem_cons j h = elim (dec_eq (from + j) c) [
           | inl q ↦ elim o [
             | inl p ↦ absurd (elim p [ inl l ↦ omega arith | inr l ↦ omega arith ])
-            | inr p ↦ mem_elem (from + j) (x ∷ take i colors) (inl q) ∙ sym (mem_elem (from + j) (take i colors) (rw q p))
+            | inr p ↦ mem_elem (from + j) (c ∷ drop i colors) (inl q) ∙ sym (mem_elem (from + j) (drop i colors) (rw q p))
           ]
-          | inr q ↦ elem_there (from + j) x (take i colors) q
+          | inr q ↦ elem_there (from + j) c (drop i colors) q
         ]
 
-    pub counted_low : x < from → Counted colors from size (i + 1) days marks
-    counted_low h = passed (inl (inl h))
+    pub counted_low : get_or colors (i - 1) 0 < from → Counted colors from size (i - 1) days marks
+    counted_low h = passed (get_or colors (i - 1) 0) refl (inl (inl h))
 
-    module _ (h : from ≤ x) where
-      pub counted_high : length marks ≤ x - from → Counted colors from size (i + 1) days marks
-      counted_high k = passed (inl (inr (omega (arith, C.sized))))
+    module _ (h : from ≤ get_or colors (i - 1) 0) where
+      pub counted_high : length marks ≤ get_or colors (i - 1) 0 - from → Counted colors from size (i - 1) days marks
+      counted_high k = passed (get_or colors (i - 1) 0) refl (inl (inr (omega (arith, C.sized))))
 
-      module _ (k : x - from < length marks) where
-        at_place : from + (x - from) ≡ x
+      module _ (k : get_or colors (i - 1) 0 - from < length marks) where
+        at_place : from + (get_or colors (i - 1) 0 - from) ≡ get_or colors (i - 1) 0
         at_place = omega arith
 
-        pub counted_again : get_or marks (x - from) false ≡ true → Counted colors from size (i + 1) days marks
+        pub counted_again : get_or marks (get_or colors (i - 1) 0 - from) false ≡ true → Counted colors from size (i - 1) days marks
         counted_again t =
-            let m = C.marked (x - from) (omega (arith, C.sized)) in
-            passed (inr (elem_true _ _ (rw at_place at (sym m ∙ t))))
+            let m = C.marked (get_or colors (i - 1) 0 - from) (omega (arith, C.sized)) in
+            passed (get_or colors (i - 1) 0) refl (inr (elem_true _ _ (rw at_place at (sym m ∙ t))))
 
-        pub counted_new : get_or marks (x - from) false ≡ false → Counted colors from size (i + 1) (days + 1) (set marks (x - from) true)
+        pub counted_new : get_or marks (get_or colors (i - 1) 0 - from) false ≡ false → Counted colors from size (i - 1) (days + 1) (set marks (get_or colors (i - 1) 0 - from) true)
         counted_new t = record {
-          sized = length-set marks (x - from) true ∙ C.sized;
-          counted = omega (arith, C.counted, counting, within_new from (from + size) x (take i colors) h (omega (arith, C.sized)) new);
-          marked = λ j b. setting j b ∙ sym (marking (from + j));
+          inside = omega (arith, C.inside);
+          sized = length-set marks (get_or colors (i - 1) 0 - from) true ∙ C.sized;
+          counted = rw at (omega (arith, C.counted, within_new from (from + size) (get_or colors (i - 1) 0) (drop i colors) h (omega (arith, C.sized)) new));
+          marked = λ j b. rw at (marking j b);
         }
           where
-            new : Mem x (take i colors) → ⊥
-            new = elem_false _ _ (rw at_place at (sym (C.marked (x - from) (omega (arith, C.sized))) ∙ t))
+            new : Mem (get_or colors (i - 1) 0) (drop i colors) → ⊥
+            new = elem_false _ _ (rw at_place at (sym (C.marked (get_or colors (i - 1) 0 - from) (omega (arith, C.sized))) ∙ t))
 
-            setting : (j : ℕ) → j < size → get_or (set marks (x - from) true) j false ≡ elem (from + j) (x ∷ take i colors)
-            setting j b = elim (dec_eq j (x - from)) [
-              | inl e ↦ rw e (get_or-set_same marks (x - from) true false k ∙ sym (mem_elem _ _ (inl at_place)))
-              | inr n ↦ get_or-set_other marks (x - from) j true false n ∙ (C.marked j b ∙ sym (elem_there (from + j) _ (take i colors) (λ e. n (omega arith))))
+            marking : (j : ℕ) → j < size → get_or (set marks (get_or colors (i - 1) 0 - from) true) j false ≡ elem (from + j) (get_or colors (i - 1) 0 ∷ drop i colors)
+            marking j b = elim (dec_eq j (get_or colors (i - 1) 0 - from)) [
+              | inl e ↦ rw e (get_or-set_same marks (get_or colors (i - 1) 0 - from) true false k ∙ sym (mem_elem _ _ (inl at_place)))
+              | inr n ↦ get_or-set_other marks (get_or colors (i - 1) 0 - from) j true false n ∙ (C.marked j b ∙ sym (elem_there (from + j) _ (drop i colors) (λ e. n (omega arith))))
             ]
 
 -- ---- counting without marks: a number counts where it stands last
-
--- A search of the list, as `contains` does it.
-pub any_elem : (k : ℕ) (xs : List ℕ) → list_any (λ y. eqb y k) xs ≡ elem k xs
-unfolding elem
-any_elem k [] = refl
-any_elem k (x ∷ xs) = rw (any_elem k xs) (ap (λ (b : Bool). b || elem k xs) (elim (dec_eq k x) [
-  | inl e ↦ eq-eqb x k (sym e) ∙ sym (eq-eqb k x e)
-  | inr n ↦ ne_eqb x k (λ e. n (sym e)) ∙ sym (ne_eqb k x n)
-]))
 
 different_again : (x : ℕ) (xs : List ℕ) → Mem x xs → different (x ∷ xs) ≡ different xs
 different_again x xs p = different_same (x ∷ xs) xs (λ y q. elim q [ inl e ↦ rw e p | inr r ↦ r ]) (λ y q. inr q)
@@ -248,67 +243,82 @@ different_at_most : (xs : List ℕ) → different xs ≤ length xs
 unfolding different
 different_at_most xs = pigeonhole (distinct xs) xs (distinct_nodup xs) (distinct_member xs)
 
-module _ (xs : List ℕ) (i count : ℕ) (e : count + different (drop i xs) ≡ different xs) where
-  -- There are no more than places.
-  pub searched_bound : count ≤ length xs
-  searched_bound = omega (arith, e, different_at_most xs)
+-- The rest of a list, as a slice has it.
+rest_taken : (xs : List ℕ) (size i : ℕ) → length xs ≡ size → take (size - i) (drop i xs) ≡ drop i xs
+rest_taken xs size i e = take_all (size - i) (drop i xs) (omega (arith, length-drop i xs))
 
-  pub searched_all : length xs ≤ i → count ≡ different xs
-  searched_all h = let none : different (drop i xs) ≡ 0 = rw (drop_of_length-le xs h) different_none in omega (arith, e, none)
+pub searched_start : (xs : List ℕ) → 0 ≡ different (drop (length xs) xs)
+searched_start xs = rw (drop-length xs) (sym different_none)
 
-  -- The rest of the list is searched, as a slice has it.
-  module _ (inside : i < length xs) (b : Bool) (t : b ≡ list_any (λ y. eqb y (get_or xs i 0)) (take (length xs - (i + 1)) (drop (i + 1) xs))) where
-    found : b ≡ elem (get_or xs i 0) (drop (i + 1) xs)
-    found = t ∙ (any_elem (get_or xs i 0) (take (length xs - (i + 1)) (drop (i + 1) xs)) ∙ ap (elem (get_or xs i 0)) (take_all (length xs - (i + 1)) (drop (i + 1) xs) (omega (arith, length-drop (i + 1) xs))))
+module _ (xs : List ℕ) (i count : ℕ) (e : count ≡ different (drop i xs)) where
+  -- There are no more than places passed.
+  pub searched_bound : count ≤ length xs - i
+  searched_bound = omega (arith, e, different_at_most (drop i xs), length-drop i xs)
 
-    here : drop i xs ≡ get_or xs i 0 ∷ drop (i + 1) xs
-    here = rw (add-one i) (drop-cons xs i 0 inside)
+  pub searched_all : i ≤ 0 → count ≡ different xs
+  searched_all = drop_none different xs i count e
 
-    pub searched_again : b ≡ true → count + different (drop (i + 1) xs) ≡ different xs
-    searched_again u = omega (arith, e, ap different here, different_again (get_or xs i 0) (drop (i + 1) xs) (elem_true _ _ (sym found ∙ u)))
+  module _ (some : 0 < i) (inside : i ≤ length xs) (b : Bool) (t : b ≡ elem (get_or xs (i - 1) 0) (take (length xs - i) (drop i xs))) where
+    pub searched_again : b ≡ true → count ≡ different (drop (i - 1) xs)
+    searched_again u = rw (drop_back xs i some inside) (e ∙ sym (different_again (get_or xs (i - 1) 0) (drop i xs) (elem_true _ _ (rw (rest_taken xs (length xs) i refl) at (sym t ∙ u)))))
 
-    pub searched_new : b ≡ false → count + 1 + different (drop (i + 1) xs) ≡ different xs
-    searched_new u = omega (arith, e, ap different here, different_new (get_or xs i 0) (drop (i + 1) xs) (elem_false _ _ (sym found ∙ u)))
+    pub searched_new : b ≡ false → count + 1 ≡ different (drop (i - 1) xs)
+    searched_new u = rw (drop_back xs i some inside) (omega (arith, e, different_new (get_or xs (i - 1) 0) (drop i xs) (elem_false _ _ (rw (rest_taken xs (length xs) i refl) at (sym t ∙ u)))))
 
--- ---- the numbers within bounds, copied out
+-- Whether a number stands in a list, told by a search of its places.
+pub search_elem : (number : ℕ) (cs : List ℕ) (b : Bool)
+    → MatchBool b ((i : ℕ) × (i < length cs) × (get_or cs i 0 ≡ number)) ((i : ℕ) → i < length cs → get_or cs i 0 ≢ number) → b ≡ elem number cs
+search_elem number cs true (i, h, e) = sym (mem_elem number cs (rw e at (mem_get_or cs i 0 h)))
+search_elem number cs false none = sym (not_mem_elem number cs (λ p. let r = place_of_lem number cs 0 p in none r.0 r.1 r.2))
 
-within_append : (lo hi : ℕ) (xs ys : List ℕ) → within lo hi (xs ++ ys) ≡ within lo hi xs ++ within lo hi ys
-unfolding within
-within_append lo hi [] ys = refl
-within_append lo hi (x ∷ xs) ys = elim (dec_lt x lo) [
-  | yes a ↦ rw (within_low lo hi x (xs ++ ys) a, within_low lo hi x xs a) (within_append lo hi xs ys)
-  | no a ↦ elim (dec_lt x hi) [
-    | yes b ↦ rw (within_in lo hi x (xs ++ ys) (omega arith) b, within_in lo hi x xs (omega arith) b) (ap (λ (l : List ℕ). x ∷ l) (within_append lo hi xs ys))
-    | no b ↦ rw (within_high lo hi x (xs ++ ys) (omega arith) (omega arith), within_high lo hi x xs (omega arith) (omega arith)) (within_append lo hi xs ys)
-  ]
-]
+-- ---- the numbers within bounds, copied out from the back on
 
--- The numbers passed that are within the bounds stand at the front of the list.
-pub record Copied (lo hi : ℕ) (colors : List ℕ) (size i count : ℕ) (list : List ℕ) : Type 0 where
+-- The numbers passed that are within the bounds stand in the list from `place` on.
+pub record Copied (lo hi : ℕ) (colors : List ℕ) (size i place : ℕ) (list : List ℕ) : Type 0 where
+  pub inside : i ≤ length colors
   pub sized : length list ≡ size
-  pub room : count ≤ size
-  pub copied : take count list ≡ within lo hi (take i colors)
+  pub room : place ≤ size
+  pub copied : drop place list ≡ within lo hi (drop i colors)
 
-pub copied_start : (lo hi : ℕ) (colors list : List ℕ) → Copied lo hi colors (length list) 0 0 list
+pub copied_start : (lo hi : ℕ) (colors list : List ℕ) → Copied lo hi colors (length list) (length colors) (length list) list
 unfolding within
-copied_start lo hi colors list = record { sized = refl; room = omega arith; copied = refl }
+copied_start lo hi colors list = record { inside = omega arith; sized = refl; room = omega arith; copied = rw (drop-length colors, drop-length list) refl }
 
-module _ {lo hi : ℕ} {colors : List ℕ} {size i count : ℕ} {list : List ℕ} (C : Copied lo hi colors size i count list) where
-  module _ (inside : i < length colors) where
-    left : within lo hi (get_or colors i 0 ∷ []) ≡ [] → Copied lo hi colors size (i + 1) count list
-    left e = record { sized = C.sized; room = C.room; copied = rw (take_more colors i 0 inside, within_append lo hi (take i colors) (get_or colors i 0 ∷ []), e) (rw append-nil C.copied) }
+module _ {lo hi : ℕ} {colors : List ℕ} {size i place : ℕ} {list : List ℕ} (C : Copied lo hi colors size i place list) where
+  pub copied_all : i ≤ 0 → drop place list ≡ within lo hi colors
+  copied_all = drop_none (within lo hi) colors i (drop place list) C.copied
 
-    pub copied_out : (get_or colors i 0 < lo) ⊎ (hi ≤ get_or colors i 0) → Copied lo hi colors size (i + 1) count list
-    unfolding within
-    copied_out o = left (within_out lo hi _ [] o)
+  module _ (some : 0 < i) where
+    left : within lo hi (get_or colors (i - 1) 0 ∷ drop i colors) ≡ within lo hi (drop i colors) → Copied lo hi colors size (i - 1) place list
+    left e = record { inside = omega (arith, C.inside); sized = C.sized; room = C.room; copied = C.copied ∙ sym (rw (drop_back colors i some C.inside) e) }
 
-    pub copied_in : lo ≤ get_or colors i 0 → get_or colors i 0 < hi → count < length list → Copied lo hi colors size (i + 1) (count + 1) (set list count (get_or colors i 0))
-    unfolding within
-    copied_in a b h = record {
-      sized = length-set list count (get_or colors i 0) ∙ C.sized;
-      room = omega (arith, C.sized);
-      copied = rw (take_more colors i 0 inside, within_append lo hi (take i colors) (get_or colors i 0 ∷ []), within_in lo hi (get_or colors i 0) [] a b, add-one count) (take-suc-set list count (get_or colors i 0) h ∙ ap (λ (l : List ℕ). l ++ get_or colors i 0 ∷ []) C.copied);
-    }
+    pub copied_out : (get_or colors (i - 1) 0 < lo) ⊎ (hi ≤ get_or colors (i - 1) 0) → Copied lo hi colors size (i - 1) place list
+    copied_out o = left (within_out lo hi _ (drop i colors) o)
+
+    pub copied_low : get_or colors (i - 1) 0 < lo → Copied lo hi colors size (i - 1) place list
+    copied_low a = left (within_low lo hi _ (drop i colors) a)
+
+    module _ (a : lo ≤ get_or colors (i - 1) 0) where
+      pub copied_high : hi ≤ get_or colors (i - 1) 0 → Copied lo hi colors size (i - 1) place list
+      copied_high b = left (within_high lo hi _ (drop i colors) a b)
+
+      pub copied_in : get_or colors (i - 1) 0 < hi → 0 < place → Copied lo hi colors size (i - 1) (place - 1) (set list (place - 1) (get_or colors (i - 1) 0))
+      copied_in b h = record {
+        inside = omega (arith, C.inside);
+        sized = length-set list (place - 1) (get_or colors (i - 1) 0) ∙ C.sized;
+        room = omega (arith, C.room);
+        copied = rw (drop_back colors i some C.inside, within_in lo hi x (drop i colors) a b) (drop_back (set list (place - 1) x) place h (omega (arith, length-set list (place - 1) x, C.sized, C.room)) ∙ front);
+      }
+        where
+          x : ℕ
+          x = get_or colors (i - 1) 0
+
+          front : get_or (set list (place - 1) x) (place - 1) 0 ∷ drop place (set list (place - 1) x) ≡ x ∷ within lo hi (drop i colors)
+          front = rw (get_or-set_same list (place - 1) x 0 (omega (arith, C.sized, C.room)), drop-set-lt place list (place - 1) x (omega arith), C.copied)
+
+-- What a search of the copies counts.
+pub copied_counted : (lo hi size place r : ℕ) (colors list : List ℕ) → length list ≡ size → drop place list ≡ within lo hi colors → r ≡ different (take (size - place) (drop place list)) → r ≡ different (within lo hi colors)
+copied_counted lo hi size place r colors list e f g = g ∙ ap different (rest_taken list size place e ∙ f)
 
 -- ---- what is said of every number, place by place
 

@@ -6,39 +6,31 @@ use mathlib.Core.List.{List, []}
 use mathlib.Core.Bool.{Bool, true, false, not, ◌||◌, cond}
 use native.Mathlib.Omega.{arith}
 use lib.ListN.{length, take}
-use lib.Dec.{eqb, ltb}
-use Rattle.std.specs.List.{list_any}
+use lib.Dec.{ltb}
 use borrow.Author.Tests.{lt-ltb, le-ltb, ltb-true, ltb-false, not-true}
 use Rattle.lists.specs.Member.{elem}
 use Rattle.lists.proofs.Tests.{by-test, and_true, or_true, or_false}
 use Rattle.lists.proofs.MemberLaws.{elem_true, elem_false, not_mem_elem}
 use Rattle.graph.specs.Color.{no_color, days_of}
-use Rattle.days.proofs.CountLaws.{any_elem}
 use Rattle.days.proofs.DaysLaws.{days_none}
 use Rattle.days.specs.declared.LeadingPart.{LeadingPart}
 use Rattle.days.specs.FewerDays.{second_chosen, fewer_days, AllColored, FewestDays}
 
 -- ---- which list
 
-module _ (first second : List ℕ) (b : Bool) (e : b ≡ list_any (λ y. eqb y 65535) second) where
-  in_second : b ≡ elem no_color second
-  in_second = e ∙ any_elem no_color second
-
+module _ (first second : List ℕ) (b : Bool) (e : b ≡ elem no_color second) where
   pub second_none : b ≡ true → false ≡ second_chosen first second
   unfolding second_chosen
-  second_none t = simp (sym in_second ∙ t)
+  second_none t = simp (sym e ∙ t)
 
-  module _ (f : b ≡ false) (a : Bool) (d : a ≡ list_any (λ y. eqb y 65535) first) where
-    in_first : a ≡ elem no_color first
-    in_first = d ∙ any_elem no_color first
-
+  module _ (f : b ≡ false) (a : Bool) (d : a ≡ elem no_color first) where
     pub first_none : a ≡ true → a ≡ second_chosen first second
     unfolding second_chosen
-    first_none t = simp (sym in_second ∙ f, sym in_first ∙ t) t
+    first_none t = simp (sym e ∙ f, sym d ∙ t) t
 
     pub by_days : a ≡ false → (x y : ℕ) → x ≡ days_of second → y ≡ days_of first → ltb x y ≡ second_chosen first second
     unfolding second_chosen
-    by_days t x y p q = rw (p, q) (simp (sym in_second ∙ f, sym in_first ∙ t))
+    by_days t x y p q = rw (p, q) (simp (sym e ∙ f, sym d ∙ t))
 
 -- Of nothing the first is chosen.
 chosen_empty : second_chosen [] [] ≡ false

@@ -1,8 +1,8 @@
 // Days: how many different colours a list has, and which of two lists has fewer.
 #![tactic(auto)]
 
-ghost use Rattle.std.specs.Prelude.{◌≡◌, ◌≢◌, false, cond, ℕ, ◌+◌, ◌≤◌, ◌<◌, length, get_or, take, MatchOption, IfSome};
-ghost use Rattle.lists.specs.Member.{Mem};
+ghost use Rattle.std.specs.Prelude.{◌≡◌, ◌≢◌, false, cond, ℕ, ◌+◌, ◌≤◌, ◌<◌, length, get_or, take, drop, MatchOption, IfSome};
+ghost use Rattle.lists.specs.Member.{Mem, elem};
 ghost use Rattle.lists.specs.Different.{different};
 ghost use Rattle.graph.specs.Color.{days_of, no_color};
 ghost use Rattle.days.specs.FewerDays.{second_chosen, fewer_days, FewestDays};
@@ -40,13 +40,13 @@ fn next_color(colors: &[u16], from: u16, most: u16) -> Option<u16>
 }
 
 // How many different numbers the list has from `from` on, as far as there are marks: each counts where it sets its mark. Once all marks are
-// set, the rest of the list can add none.
+// set, the rest of the list can add none. From the back: where each place got the smallest free colour in turn, the greatest stand late.
 fn count_marked(colors: &[u16], from: u16, marks: &mut [bool]) -> usize
     requires { (i : ℕ) → get_or marks.old i false ≡ false }
     ensures answer { let colors = colors.entry.now in let marks₀ = marks.old in result ≡ different (within from (from + length marks₀) colors) }
 {
     let mut days = 0;
-    for &color in colors {
+    for &color in colors.iter().rev() {
         if days == marks.len() {
             return days;
         }
@@ -85,35 +85,43 @@ fn count_many(colors: &[u16], most: u16) -> usize
     days
 }
 
+// Whether a number stands in the list. From the back: one that is coloured in order, and not to its end, has no colour there.
+fn contains(colors: &[u16], number: u16) -> bool
+    ensures answer { result ≡ elem number colors.now }
+{
+    colors.iter().rev().any(|&color| color == number)
+}
+
 // Without marks, for a short list: a number counts where it stands last.
 fn count_searched(numbers: &[u16]) -> usize
     ensures answer { result ≡ different numbers.now }
 {
     let mut count = 0;
-    for (i, number) in numbers.iter().enumerate() {
-        if !numbers[i + 1..].contains(number) {
+    for i in (0..numbers.len()).rev() {
+        if !contains(&numbers[i + 1..], numbers[i]) {
             count += 1;
         }
     }
     count
 }
 
-// The large colours, those from 4,096 on, in their order, to the front of a list: how many they are, if it has a place for each.
+// The large colours, those from 4,096 on, in their order, to the back of a list: from which place on they stand there, if it has places for
+// all. From the back, as `count_marked`.
 fn copy_large(colors: &[u16], large: &mut [u16]) -> Option<usize>
     ensures copied { let colors = colors.entry.now in let large = large.new in
-        IfSome result (λ count. (count ≤ length large) × (take count large ≡ within 4096 no_color colors)) }
+        IfSome result (λ place. (place ≤ length large) × (drop place large ≡ within 4096 no_color colors)) }
 {
-    let mut copied = 0;
-    for &color in colors {
+    let mut place = large.len();
+    for &color in colors.iter().rev() {
         if (4096..Color::NONE).contains(&color) {
-            if copied == large.len() {
+            if place == 0 {
                 return None;
             }
-            large[copied] = color;
-            copied += 1;
+            place -= 1;
+            large[place] = color;
         }
     }
-    Some(copied)
+    Some(place)
 }
 
 // How many different colours there are: 65,535 is none. Linear in the list, whatever its colours are. At most 4,096 marks are cleared where
@@ -129,8 +137,8 @@ pub fn days_of(colors: &[u16]) -> usize
         return count_window::<4096>(colors, 0, most as usize);
     }
     let mut large = [0; 64];
-    if let Some(count) = copy_large(colors, &mut large) {
-        return count_window::<4096>(colors, 0, 4096) + count_searched(&large[..count]);
+    if let Some(place) = copy_large(colors, &mut large) {
+        return count_window::<4096>(colors, 0, 4096) + count_searched(&large[place..]);
     }
     count_many(colors, most)
 }
@@ -139,10 +147,10 @@ pub fn days_of(colors: &[u16]) -> usize
 fn second_chosen(first: &[u16], second: &[u16]) -> bool
     ensures answer { result ≡ second_chosen first.now second.now }
 {
-    if second.contains(&Color::NONE) {
+    if contains(second, Color::NONE) {
         return false;
     }
-    first.contains(&Color::NONE) || days_of(second) < days_of(first)
+    contains(first, Color::NONE) || days_of(second) < days_of(first)
 }
 
 // A leading part of one of two lists: which of them, and how long it is.

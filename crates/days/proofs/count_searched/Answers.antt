@@ -1,19 +1,19 @@
-use Rattle.std.proofs.Common.{arith}
-use Rattle.days.proofs.CountLaws.{searched_bound, searched_all, searched_again, searched_new}
+use Rattle.std.proofs.Common.{◌≡◌, ◌-◌, ◌+◌, arith}
+use Rattle.days.proofs.CountLaws.{searched_start, searched_bound, searched_again, searched_new}
 use Rattle.days.proofs.count_searched.Goals as goal
-use Rattle.days.proofs.count_searched.Goals.{then-not-contains, else-not-contains}
+
+pub loop-i-init : goal.loop-i-init
+loop-i-init c = searched_start c.args.numbers.now
 
 pub overflow_add-count : goal.overflow_add-count
-overflow_add-count c = omega (arith, searched_bound _ _ _ c.loop-i.invariant)
+overflow_add-count c = omega (arith, searched_bound c.args.numbers.now c.loop-i.i c.loop-i.count c.loop-i.invariant)
+
+pub loop-i-preserved-then-not-contains : goal.loop-i-preserved-then-not-contains
+loop-i-preserved-then-not-contains c =
+    let here : c.loop-i.i - 1 + 1 ≡ c.loop-i.i = omega arith in
+    searched_new c.args.numbers.now c.loop-i.i _ c.loop-i.invariant (omega arith) (omega arith) _ (rw here at c.contains.ensures.answer) c.if-not-contains.true
 
 pub loop-i-preserved : goal.loop-i-preserved
 loop-i-preserved c =
-    let i = c.loop-i.invariant in
-    let h = c.loop-i-test.true in
-    elim c.if-not-contains.branch [
-      | then-not-contains w ↦ rw w.count-is (searched_new _ _ _ i h _ c.contains.ensures.value w.if-not-contains.true)
-      | else-not-contains w ↦ rw w.count-is (searched_again _ _ _ i h _ c.contains.ensures.value w.if-not-contains.false)
-    ]
-
-pub returns : goal.returns
-returns c = record { answer = searched_all _ _ _ c.loop-i.invariant c.loop-i-test.false }
+    let here : c.loop-i.i - 1 + 1 ≡ c.loop-i.i = omega arith in
+    searched_again c.args.numbers.now c.loop-i.i _ c.loop-i.invariant (omega arith) (omega arith) _ (rw here at c.contains.ensures.answer) c.if-not-contains.false

@@ -1,5 +1,5 @@
 -- `fewer_days` meets its contract: the part is cut off the list that it is of.
-use Rattle.std.proofs.Common.{sym}
+use Rattle.std.proofs.Common.{arith, sym}
 use lib.Seq.{length-take-le}
 use Rattle.days.proofs.FewerDaysLaws.{cut_inside, cut_second, cut_first, fewest_days}
 use Rattle.days.proofs.fewer_days.Goals as goal
@@ -9,7 +9,7 @@ use Rattle.days.proofs.fewer_days.Goals.{then-part, else-part}
 pub slice_bounds-result-end : goal.slice_bounds-result-end
 slice_bounds-result-end c =
     let inside = cut_inside _ _ _ _ c.fewer_days_part-part.ensures.answer in
-    elim c.if-part.branch [ then-part w ↦ rw w.list-is (sym (length-take-le _ _ inside.1)) | else-part w ↦ rw w.list-is (sym (length-take-le _ _ inside.0)) ]
+    elim c.if-part.branch [ then-part w ↦ rw w.list-is (sym (length-take-le _ _ (omega (arith, inside)))) | else-part w ↦ rw w.list-is (sym (length-take-le _ _ (omega (arith, inside)))) ]
 
 pub returns-clause-fewest : goal.returns-clause-fewest
 returns-clause-fewest c =

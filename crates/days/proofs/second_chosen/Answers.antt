@@ -3,10 +3,10 @@ use Rattle.days.proofs.FewerDaysLaws.{second_none, first_none, by_days}
 use Rattle.days.proofs.second_chosen.Goals as goal
 
 pub returns-then-contains : goal.returns-then-contains
-returns-then-contains c = record { answer = second_none _ _ _ c.contains.ensures.value c.if-contains.true }
+returns-then-contains c = record { answer = second_none _ _ _ c.contains.ensures.answer c.if-contains.true }
 
 pub returns-then-contains-2 : goal.returns-then-contains-2
-returns-then-contains-2 c = record { answer = first_none _ _ _ c.contains.ensures.value c.if-contains.false _ c.contains-2.ensures.value c.if-contains-2.true }
+returns-then-contains-2 c = record { answer = first_none _ _ _ c.contains.ensures.answer c.if-contains.false _ c.contains-2.ensures.answer c.if-contains-2.true }
 
 pub returns-else-contains-2 : goal.returns-else-contains-2
-returns-else-contains-2 c = record { answer = by_days _ _ _ c.contains.ensures.value c.if-contains.false _ c.contains-2.ensures.value c.if-contains-2.false _ _ c.days_of.ensures.answer c.days_of-else-contains-2.ensures.answer }
+returns-else-contains-2 c = record { answer = by_days _ _ _ c.contains.ensures.answer c.if-contains.false _ c.contains-2.ensures.answer c.if-contains-2.false _ _ c.days_of.ensures.answer c.days_of-else-contains-2.ensures.answer }
