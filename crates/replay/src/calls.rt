@@ -9,7 +9,7 @@ use greedy_color::{
 use misra_gries::{misra_gries_add_edge, misra_gries_edge_color};
 use replay_calls::put_colored;
 use replay_input::{Case, Lent, Line, Name};
-use replay_output::{Output, front, lend};
+use replay_output::{Output, front, lend_front};
 
 // 0 Degree, 1 Saturation, 2 IndependentSet; the cases have no other.
 fn strategy_of(number: usize) -> ColoringStrategy {
@@ -52,7 +52,7 @@ fn call_coloring(
     count: usize,
     lent: &mut Lent,
 ) {
-    let colors = lend(lent.list, count);
+    let colors = lend_front(lent.list, count);
     let answer = color(case, line, colors);
     put_colored(output, line.name, answer, colors);
     output.put('\n');
@@ -60,7 +60,7 @@ fn call_coloring(
 
 // As much of the text as was lent, then an empty line.
 fn call_matchdays(output: &mut Output<impl Print>, case: Case, line: Line, lent: &mut Lent) {
-    let page = lend(lent.bytes, line.first);
+    let page = lend_front(lent.bytes, line.first);
     let length = matchday_text::matchday_text(case.file, page);
     output.put_report(line.name, "length", length);
     output.put('\n');

@@ -8,15 +8,15 @@ use days::{fewer_days, fewer_days_part};
 use edge_walk::edges_at;
 use graph::NodeIndex;
 use replay_input::{Case, Lent, Line, Name};
-use replay_output::{Number, Output, front, lend};
+use replay_output::{Number, Output, front, lend_front};
 
 mod report;
 
 pub use report::put_colored;
 
 fn call_incidence(output: &mut Output<impl Print>, case: Case, line: Line, lent: &mut Lent) {
-    let starts = lend(lent.list, line.first);
-    let entries = lend(lent.entries, line.second);
+    let starts = lend_front(lent.list, line.first);
+    let entries = lend_front(lent.entries, line.second);
     let answer = incidence::incidence(case.nodes, case.ends, starts, entries);
     put_count(output, line.name, "total", answer);
     output.put_list(starts);
@@ -35,8 +35,8 @@ fn call_edges_at(output: &mut Output<impl Print>, line: Line, lent: &Lent) {
 
 // A walk over one node's edges in the graph's own table. A graph that is refused leaves the slices as lent, which give no edges.
 fn call_edge_walk(output: &mut Output<impl Print>, case: Case, line: Line, lent: &mut Lent) {
-    let starts = lend(lent.list, case.nodes.saturating_add(1));
-    let entries = lend(lent.entries, case.ends.len());
+    let starts = lend_front(lent.list, case.nodes.saturating_add(1));
+    let entries = lend_front(lent.entries, case.ends.len());
     let _ = incidence::incidence(case.nodes, case.ends, starts, entries);
     output.put("edge_walk:");
     let node = NodeIndex(u16::narrowed(line.first));
@@ -44,13 +44,13 @@ fn call_edge_walk(output: &mut Output<impl Print>, case: Case, line: Line, lent:
 }
 
 fn call_two_color(output: &mut Output<impl Print>, case: Case, line: Line, lent: &mut Lent) {
-    let colors = lend(lent.bytes, line.first);
+    let colors = lend_front(lent.bytes, line.first);
     let answer = two_color::two_color(case.nodes, case.ends, colors);
     put_colored(output, line.name, answer, colors);
 }
 
 fn call_line_graph(output: &mut Output<impl Print>, case: Case, line: Line, lent: &mut Lent) {
-    let pairs = lend(lent.list, line.first);
+    let pairs = lend_front(lent.list, line.first);
     let answer = line_graph::line_graph(case.nodes, case.ends, pairs);
     put_count(output, line.name, "pairs", answer);
     output.put_list(pairs);
@@ -65,8 +65,8 @@ fn call_fewer_days(output: &mut Output<impl Print>, line: Line, lent: &Lent) {
 }
 
 fn call_read_file(output: &mut Output<impl Print>, case: Case, line: Line, lent: &mut Lent) {
-    let ends = lend(lent.list, line.first);
-    let colors = lend(lent.entries, line.second);
+    let ends = lend_front(lent.list, line.first);
+    let colors = lend_front(lent.entries, line.second);
     let answer = graph_file::read_graph_file(case.file, ends, colors);
     put_file(output, answer);
     output.put_list(ends);
@@ -76,7 +76,7 @@ fn call_read_file(output: &mut Output<impl Print>, case: Case, line: Line, lent:
 
 // The colours are those of the presets line.
 fn call_write_file(output: &mut Output<impl Print>, case: Case, line: Line, lent: &mut Lent) {
-    let written = lend(lent.bytes, line.third);
+    let written = lend_front(lent.bytes, line.third);
     let answer = write_graph_file::write_graph_file(
         case.nodes,
         case.ends,

@@ -67,16 +67,23 @@ pub fn front<T>(list: &[T], wanted: usize) -> &[T]
     &list[..wanted.min(list.len())]
 }
 
-// The same to be written, as it stands before a call.
-pub fn lend<T: Number>(list: &mut [T], wanted: usize) -> &mut [T]
+// A slice as it stands before a call.
+pub fn lend<T: Number>(list: &mut [T])
+    ensures lent { Lent T.standing_at list.new }
+{
+    for (place, number) in list.iter_mut().enumerate() {
+        *number = T::standing_at(place);
+    }
+}
+
+// As many of the list's places as are wanted, or all that it has, as they stand before a call.
+pub fn lend_front<T: Number>(list: &mut [T], wanted: usize) -> &mut [T]
     ensures count { length result.now ≡ min wanted (length list.old) }
     ensures lent { Lent T.standing_at result.now }
 {
     let count = wanted.min(list.len());
     let lent = &mut list[..count];
-    for (place, number) in lent.iter_mut().enumerate() {
-        *number = T::standing_at(place);
-    }
+    lend(lent);
     lent
 }
 

@@ -5,5 +5,5 @@
 mod lent;
 mod output;
 
-pub use lent::{Number, front, lend};
+pub use lent::{Number, front, lend, lend_front};
 pub use output::Output;

@@ -53,7 +53,7 @@ impl<'a, P: Print> Output<'a, P> {
     // Each number behind a space.
     fn put_numbers<T: Number>(&mut self, list: &[T]) {
         for number in list {
-            self.put(' ');
+            self.put_byte(b' ');
             self.put(*number);
         }
     }
