@@ -19,10 +19,11 @@ use Rattle.greedy.specs.Saturation.{uncolored_among}
 use Rattle.graph.specs.Edges.{edge_count}
 use Rattle.graph.proofs.EdgeLaws.{at_edge, edge_at}
 use Rattle.graph.specs.Stretch.{stretch}
+use Rattle.items.specs.declared.Kind.{Kind}
 use Rattle.items.specs.declared.table.Items.{Items}
-use Rattle.items.proofs.TableLaws.{sized_as}
-use Rattle.saturation.specs.Counts.{neighbors_in}
 use Rattle.items.specs.Items.{first_node, second_node, across_of, neighbors_of, Sized, Tabled}
+use Rattle.items.proofs.TableLaws.{tabled_as}
+use Rattle.saturation.specs.Counts.{neighbors_in}
 use Rattle.items.proofs.ItemsLaws.{items_few, across_inside, first_inside, second_inside, NodeOf, neighbor_leading, leading_neighbor}
 use Rattle.color_marks.proofs.MarksLaws.{stands_item, item_stands, stored_here, bare_mark, used_yes, used_no}
 use Rattle.color_marks.specs.Marks.{stored, around, stands, mark_of, used_marks}
@@ -122,77 +123,77 @@ pub record Known (us : List ℕ) (nb : ℕ → List ℕ) (colors : List ℕ) (c 
   pub old : (u : ℕ) → Mem u us → u < length colors → color_of colors u ≡ no_color → get_or marks u 0 ≢ 0 → Mem c (colors_among colors (nb u))
   pub marked : (u : ℕ) → Mem u us → u < length colors → color_of colors u ≡ no_color → Mem c (colors_among colors (nb u)) → get_or marks u 0 ≢ 0
 
-module _ (items : Items) (colors : List ℕ) (c : ℕ) (size : length colors ≡ items.count) (real : c ≡ no_color → ⊥) where
-  abbrev sized : Sized items.kind items.table.nodes items.table.ends.now (length colors)
-  sized = sized_as items (length colors) size
+module _ (kind : Kind) (n : ℕ) (ends starts entries colors : List ℕ) (c : ℕ) (tabled : Tabled kind n ends starts entries (length colors)) (real : c ≡ no_color → ⊥) where
+  abbrev sized : Sized kind n ends (length colors)
+  sized = tabled.sized
 
-  node_inside : (u w : ℕ) → u < length colors → NodeOf items.kind items.table.ends.now u w → w < items.table.nodes
-  node_inside u w h (inl p) = rw (← p) (first_inside items.kind items.table.nodes items.table.ends.now (length colors) sized u h)
-  node_inside u w h (inr p) = rw (← p) (second_inside items.kind items.table.nodes items.table.ends.now (length colors) sized u h)
+  node_inside : (u w : ℕ) → u < length colors → NodeOf kind ends u w → w < n
+  node_inside u w h (inl p) = rw (← p) (first_inside kind n ends (length colors) sized u h)
+  node_inside u w h (inr p) = rw (← p) (second_inside kind n ends (length colors) sized u h)
 
   module _ (u : ℕ) (inside : u < length colors) (bare : color_of colors u ≡ no_color) where
     -- Whether the colour stands at a node.
     abbrev f : ℕ → Bool
-    f = stands items.kind items.table.ends.now items.table.starts.now items.table.entries.now colors c
+    f = stands kind ends starts entries colors c
 
     -- Its mark.
     abbrev mark : ℕ
-    mark = mark_of items.kind items.table.ends.now items.table.starts.now items.table.entries.now colors c u
+    mark = mark_of kind ends starts entries colors c u
 
-    mark_is : mark ≡ cond (f (first_node items.kind items.table.ends.now u) || f (second_node items.kind items.table.ends.now u)) 1 0
-    mark_is = bare_mark items.kind items.table.ends.now items.table.starts.now items.table.entries.now colors c u inside (color_read colors u 0 inside ∙ bare)
+    mark_is : mark ≡ cond (f (first_node kind ends u) || f (second_node kind ends u)) 1 0
+    mark_is = bare_mark kind ends starts entries colors c u inside (color_read colors u 0 inside ∙ bare)
 
-    mark_stands : mark ≢ 0 → (w : ℕ) × NodeOf items.kind items.table.ends.now u w × (f w ≡ true)
+    mark_stands : mark ≢ 0 → (w : ℕ) × NodeOf kind ends u w × (f w ≡ true)
     mark_stands n =
-        let a = first_node items.kind items.table.ends.now u in
-        let b = second_node items.kind items.table.ends.now u in
+        let a = first_node kind ends u in
+        let b = second_node kind ends u in
         by-test (f a) (λ t. (a, inl refl, t)) (λ s. by-test (f b) (λ t. (b, inr refl, t)) (λ t. absurd (n (mark_is ∙ rw (s, t)))))
 
-    stands_mark : (w : ℕ) → NodeOf items.kind items.table.ends.now u w → f w ≡ true → mark ≢ 0
+    stands_mark : (w : ℕ) → NodeOf kind ends u w → f w ≡ true → mark ≢ 0
     stands_mark w (inl p) t z = let e = sym mark_is ∙ z in omega (arith, rw (p, t) at e)
-    stands_mark w (inr p) t z = let e = sym mark_is ∙ z in omega (arith, rw (p, true_or (f (first_node items.kind items.table.ends.now u)) (f w) t) at e)
+    stands_mark w (inr p) t z = let e = sym mark_is ∙ z in omega (arith, rw (p, true_or (f (first_node kind ends u)) (f w) t) at e)
 
   -- The colour stands at a node of item u, which has none: a neighbour of u has it; and the other way round.
-  stands_among : (u w : ℕ) → u < length colors → color_of colors u ≡ no_color → NodeOf items.kind items.table.ends.now u w → stands items.kind items.table.ends.now items.table.starts.now items.table.entries.now colors c w ≡ true → Mem c (colors_among colors (neighbors_in items u))
+  stands_among : (u w : ℕ) → u < length colors → color_of colors u ≡ no_color → NodeOf kind ends u w → stands kind ends starts entries colors c w ≡ true → Mem c (colors_among colors (neighbors_of kind n ends u))
   unfolding stands
   stands_among u w h bare of_item t =
-      let r = stands_item items.kind items.table.ends.now colors c w (stretch items.table.starts.now items.table.entries.now w) t in
-      let x = across_of items.kind items.table.ends.now r.0 w in
-      let e = edge_at items.table.ends.now (edge_count items.table.ends.now) w r.0 (subst (λ (l : List ℕ). Mem r.0 l) (items.table.table.row w (node_inside u w h of_item)) r.1) in
+      let r = stands_item kind ends colors c w (stretch starts entries w) t in
+      let x = across_of kind ends r.0 w in
+      let e = edge_at ends (edge_count ends) w r.0 (subst (λ (l : List ℕ). Mem r.0 l) (tabled.table.row w (node_inside u w h of_item)) r.1) in
       let other : x ≢ u = λ p. real (sym r.3 ∙ (ap (color_of colors) p ∙ bare)) in
-      color_among colors (neighbors_in items u) c x
-      (leading_neighbor items.kind items.table.nodes items.table.ends.now (length colors) sized u x h other (record { edge = r.0; node = w; inside = e.0; of_item = of_item; at = e.1; to = refl }))
+      color_among colors (neighbors_of kind n ends u) c x
+      (leading_neighbor kind n ends (length colors) sized u x h other (record { edge = r.0; node = w; inside = e.0; of_item = of_item; at = e.1; to = refl }))
       r.3 real
 
-  among_stands : (u : ℕ) → u < length colors → Mem c (colors_among colors (neighbors_in items u)) → (w : ℕ) × NodeOf items.kind items.table.ends.now u w × (stands items.kind items.table.ends.now items.table.starts.now items.table.entries.now colors c w ≡ true)
+  among_stands : (u : ℕ) → u < length colors → Mem c (colors_among colors (neighbors_of kind n ends u)) → (w : ℕ) × NodeOf kind ends u w × (stands kind ends starts entries colors c w ≡ true)
   unfolding stands
   among_stands u h p =
-      let r = among_color colors (neighbors_in items u) c p in
-      let l = neighbor_leading items.kind items.table.nodes items.table.ends.now (length colors) sized u r.0 h r.1 in
+      let r = among_color colors (neighbors_of kind n ends u) c p in
+      let l = neighbor_leading kind n ends (length colors) sized u r.0 h r.1 in
       let w = l.node in (
         w,
         l.of_item,
-        item_stands items.kind items.table.ends.now colors c w (stretch items.table.starts.now items.table.entries.now w) l.edge
-            (rw (items.table.table.row w (node_inside u w h l.of_item)) (at_edge items.table.ends.now (edge_count items.table.ends.now) w l.edge l.inside l.at))
-            (across_inside items.kind items.table.nodes items.table.ends.now (length colors) sized l.edge w l.inside l.at)
+        item_stands kind ends colors c w (stretch starts entries w) l.edge
+            (rw (tabled.table.row w (node_inside u w h l.of_item)) (at_edge ends (edge_count ends) w l.edge l.inside l.at))
+            (across_inside kind n ends (length colors) sized l.edge w l.inside l.at)
             (ap (color_of colors) l.to ∙ r.2),
       )
 
-  pub known : (us marks₀ marks : List ℕ) → 4096 ≤ length marks₀ → marks ≡ stored (mark_of items.kind items.table.ends.now items.table.starts.now items.table.entries.now colors c) us marks₀ → Known us (neighbors_in items) colors c marks
+  pub known : (us marks₀ marks : List ℕ) → 4096 ≤ length marks₀ → marks ≡ stored (mark_of kind ends starts entries colors c) us marks₀ → Known us (neighbors_of kind n ends) colors c marks
   known us marks₀ marks room stores =
-      let mark-here : (u : ℕ) → Mem u us → u < length colors → get_or marks u 0 ≡ mark_of items.kind items.table.ends.now items.table.starts.now items.table.entries.now colors c u = λ u i h.
-      ap (λ (l : List ℕ). get_or l u 0) stores ∙ stored_here (mark_of items.kind items.table.ends.now items.table.starts.now items.table.entries.now colors c) us marks₀ u i (omega (arith, items_few items.kind items.table.nodes items.table.ends.now (length colors) sized)) in
+      let mark-here : (u : ℕ) → Mem u us → u < length colors → get_or marks u 0 ≡ mark_of kind ends starts entries colors c u = λ u i h.
+      ap (λ (l : List ℕ). get_or l u 0) stores ∙ stored_here (mark_of kind ends starts entries colors c) us marks₀ u i (omega (arith, items_few kind n ends (length colors) sized)) in
       record {
         old = λ u i h bare n. let r = mark_stands u h bare (rw (mark-here u i h) at n) in stands_among u r.0 h bare r.1 r.2;
         marked = λ u i h bare p. let r = among_stands u h p in rw (mark-here u i h) (stands_mark u h bare r.0 r.1 r.2);
       }
 
   -- The marks where those are set only if some item has the colour: none has a colour that no item has.
-  pub used_known : (v : ℕ) (marks₀ marks : List ℕ) → ((u : ℕ) → get_or marks₀ u 0 ≡ 0) → 4096 ≤ length marks₀ → marks ≡ used_marks items.kind items.table.ends.now items.table.starts.now items.table.entries.now colors c v marks₀
-      → Known (around items.kind items.table.ends.now items.table.starts.now items.table.entries.now v) (neighbors_in items) colors c marks
-  used_known v marks₀ marks zeros room set = by-test (elem c colors) (λ t. known (around items.kind items.table.ends.now items.table.starts.now items.table.entries.now v) marks₀ marks room (set ∙ used_yes items.kind items.table.ends.now items.table.starts.now items.table.entries.now colors c v marks₀ t)) (λ t. record {
-    old = λ u i h bare n. absurd (n (ap (λ (l : List ℕ). get_or l u 0) (set ∙ used_no items.kind items.table.ends.now items.table.starts.now items.table.entries.now colors c v marks₀ t) ∙ zeros u));
-    marked = λ u i h bare p. let r = among_color colors (neighbors_in items u) c p in absurd (elem_false c colors t (color_member r.0 r.2));
+  pub used_known : (v : ℕ) (marks₀ marks : List ℕ) → ((u : ℕ) → get_or marks₀ u 0 ≡ 0) → 4096 ≤ length marks₀ → marks ≡ used_marks kind ends starts entries colors c v marks₀
+      → Known (around kind ends starts entries v) (neighbors_of kind n ends) colors c marks
+  used_known v marks₀ marks zeros room set = by-test (elem c colors) (λ t. known (around kind ends starts entries v) marks₀ marks room (set ∙ used_yes kind ends starts entries colors c v marks₀ t)) (λ t. record {
+    old = λ u i h bare n. absurd (n (ap (λ (l : List ℕ). get_or l u 0) (set ∙ used_no kind ends starts entries colors c v marks₀ t) ∙ zeros u));
+    marked = λ u i h bare p. let r = among_color colors (neighbors_of kind n ends u) c p in absurd (elem_false c colors t (color_member r.0 r.2));
   })
     where
       color_member : (x : ℕ) → color_of colors x ≡ c → Mem c colors
@@ -200,3 +201,12 @@ module _ (items : Items) (colors : List ℕ) (c : ℕ) (size : length colors ≡
         | yes b ↦ subst (λ (y : ℕ). Mem y colors) (color_read colors x 0 b ∙ e) (mem_get_or colors x 0 b)
         | no b ↦ absurd (real (sym e ∙ color_outside colors x (omega arith)))
       ]
+
+-- The same of the items of a graph with its table.
+module _ (items : Items) (colors : List ℕ) (c : ℕ) (size : length colors ≡ items.count) (real : c ≡ no_color → ⊥) where
+  pub known_items : (us marks₀ marks : List ℕ) → 4096 ≤ length marks₀ → marks ≡ stored (mark_of items.kind items.table.ends.now items.table.starts.now items.table.entries.now colors c) us marks₀ → Known us (neighbors_in items) colors c marks
+  known_items = known items.kind items.table.nodes items.table.ends.now items.table.starts.now items.table.entries.now colors c (tabled_as items (length colors) size) real
+
+  pub used_known_items : (v : ℕ) (marks₀ marks : List ℕ) → ((u : ℕ) → get_or marks₀ u 0 ≡ 0) → 4096 ≤ length marks₀ → marks ≡ used_marks items.kind items.table.ends.now items.table.starts.now items.table.entries.now colors c v marks₀
+      → Known (around items.kind items.table.ends.now items.table.starts.now items.table.entries.now v) (neighbors_in items) colors c marks
+  used_known_items = used_known items.kind items.table.nodes items.table.ends.now items.table.starts.now items.table.entries.now colors c (tabled_as items (length colors) size) real

@@ -22,7 +22,7 @@ use Rattle.items.specs.Items.{Tabled}
 use Rattle.items.proofs.TableLaws.{sized_as, tabled_as}
 use Rattle.items.proofs.ItemsLaws.{neighborhood, items_few}
 use Rattle.saturation.specs.Counts.{BothCounted, Cleared, Noted, NotesRoom, neighbors_in, CountsReady, Started, Preset}
-use Rattle.saturation.proofs.CountsLaws.{colors_among, count_mem, mem_count, different_few, uncolored_falls, different_stays, different_grows, Known, known}
+use Rattle.saturation.proofs.CountsLaws.{colors_among, count_mem, mem_count, different_few, uncolored_falls, different_stays, different_grows, Known, known_items}
 use Rattle.saturation.proofs.NotesLaws.{none_noted, around_times}
 use Rattle.color_marks.specs.Marks.{around, stored, mark_of}
 
@@ -175,7 +175,7 @@ module _ (items : Items) (colors s₀ w₀ : List ℕ) (v c : ℕ) (ready : Coun
   take_idle z =
       let m = stored (mark_of items.kind items.table.ends.now items.table.starts.now items.table.entries.now colors c) us (replicate 4096 0) in
       let noted = idle_noted (neighbors_in items) (length colors) hood colors s₀ w₀ us v c refl ready.counted inside bare real (λ u d. around_times items.kind items.table.nodes items.table.ends.now items.table.starts.now items.table.entries.now (length colors) tabled v u inside d) z m in
-      let marks = known items colors c ready.size real us (replicate 4096 0) m (omega (arith, length-replicate {A = ℕ} 4096 0)) refl in
+      let marks = known_items items colors c ready.size real us (replicate 4096 0) m (omega (arith, length-replicate {A = ℕ} 4096 0)) refl in
       subst (CountsReady items (set colors v c) (set s₀ v 0)) (ap (set w₀ v) (sym z) ∙ set-get_or w₀ v 0) (take_ready m s₀ w₀ m marks noted refl refl)
 
 -- ---- the start

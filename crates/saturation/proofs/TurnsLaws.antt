@@ -21,10 +21,12 @@ use Rattle.greedy.proofs.SaturationLaws.{greatest_member}
 use Rattle.std.specs.Prelude.{Option, Some, None}
 use Rattle.choice.specs.Choice.{option_of, choice_of}
 use Rattle.choice.proofs.ChoiceLaws.{Best, some_best, none_bare}
+use Rattle.items.specs.declared.Kind.{Kind}
 use Rattle.items.specs.declared.table.Items.{Items}
-use Rattle.items.proofs.TableLaws.{sized_as}
+use Rattle.items.specs.Items.{neighbors_of, Tabled}
+use Rattle.items.proofs.TableLaws.{tabled_as}
 use Rattle.items.proofs.ItemsLaws.{items_few}
-use Rattle.saturation.specs.Counts.{BothCounted, neighbors_in, CountsReady, turn_of}
+use Rattle.saturation.specs.Counts.{BothCounted, Cleared, neighbors_in, CountsReady, turn_of}
 
 -- What the counts choose is what the definition chooses.
 
@@ -117,17 +119,43 @@ module _ (nb : ℕ → List ℕ) (colors saturations waiting : List ℕ) (counte
         | inr z ↦ more_greater k u b.inside b.bare (omega (arith, b.inside)) bare (omega (arith, b.most u (omega (arith, b.inside)), z))
       ]
 
+-- A graph that passed the checks, with its table, as lists, and the counts of its items.
+pub record CountsReadyOf (kind : Kind) (n : ℕ) (ends starts entries colors saturations waiting : List ℕ) : Type 0 where
+  pub tabled : Tabled kind n ends starts entries (length colors)
+  pub counted : BothCounted (neighbors_of kind n ends) (length colors) colors saturations waiting
+  pub cleared : Cleared colors saturations waiting
+  pub saturations_room : length colors ≤ length saturations
+  pub waiting_room : length colors ≤ length waiting
+
 -- The choice between two turns.
-module _ (items : Items) (colors saturations waiting : List ℕ) (ready : CountsReady items colors saturations waiting)
+module _ (kind : Kind) (n : ℕ) (ends starts entries colors saturations waiting : List ℕ) (ready : CountsReadyOf kind n ends starts entries colors saturations waiting)
     (choice : Option NodeIndex) (said : option_of choice ≡ choice_of colors saturations waiting) where
   few : length colors ≤ 4096
-  few = items_few items.kind items.table.nodes items.table.ends.now (length colors) (sized_as items (length colors) ready.size)
+  few = items_few kind n ends (length colors) ready.tabled.sized
 
   pub chosen_none : choice ≡ None → uncolored colors (length colors) ≡ []
   chosen_none e = none_uncolored colors (length colors) (none_bare colors saturations waiting few ready.saturations_room ready.waiting_room ready.cleared.counts (sym (ap option_of e) ∙ said))
 
-  pub chosen_next : (v : NodeIndex) → choice ≡ Some v → Leads (neighbors_in items) colors (length colors) v.0
-  chosen_next v e = best_leads (neighbors_in items) colors saturations waiting ready.counted v.0 (some_best colors saturations waiting few ready.saturations_room ready.waiting_room v.0 (sym (ap option_of e) ∙ said))
+  pub chosen_next : (v : NodeIndex) → choice ≡ Some v → Leads (neighbors_of kind n ends) colors (length colors) v.0
+  chosen_next v e = best_leads (neighbors_of kind n ends) colors saturations waiting ready.counted v.0 (some_best colors saturations waiting few ready.saturations_room ready.waiting_room v.0 (sym (ap option_of e) ∙ said))
+
+-- The same of the items of a graph with its table.
+module _ (items : Items) (colors saturations waiting : List ℕ) (ready : CountsReady items colors saturations waiting)
+    (choice : Option NodeIndex) (said : option_of choice ≡ choice_of colors saturations waiting) where
+  pub ready_of : CountsReadyOf items.kind items.table.nodes items.table.ends.now items.table.starts.now items.table.entries.now colors saturations waiting
+  ready_of = record {
+    tabled = tabled_as items (length colors) ready.size;
+    counted = ready.counted;
+    cleared = ready.cleared;
+    saturations_room = ready.saturations_room;
+    waiting_room = ready.waiting_room;
+  }
+
+  pub chosen_none_items : choice ≡ None → uncolored colors (length colors) ≡ []
+  chosen_none_items = chosen_none items.kind items.table.nodes items.table.ends.now items.table.starts.now items.table.entries.now colors saturations waiting ready_of choice said
+
+  pub chosen_next_items : (v : NodeIndex) → choice ≡ Some v → Leads (neighbors_in items) colors (length colors) v.0
+  chosen_next_items = chosen_next items.kind items.table.nodes items.table.ends.now items.table.starts.now items.table.entries.now colors saturations waiting ready_of choice said
 
 -- ---- the turns
 

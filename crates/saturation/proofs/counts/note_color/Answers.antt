@@ -2,7 +2,7 @@
 use mathlib.Core.Path.{refl}
 use native.Mathlib.Omega.{arith}
 use Rattle.saturation.proofs.TakenLaws.{take_size, take_inside, take_room, take_sizes, take_ready, zero_at}
-use Rattle.saturation.proofs.CountsLaws.{used_known}
+use Rattle.saturation.proofs.CountsLaws.{used_known_items}
 use Rattle.items.proofs.ItemsLaws.{items_few}
 use Rattle.items.proofs.TableLaws.{sized_as}
 use Rattle.saturation.proofs.counts.note_color.Goals as goal
@@ -16,4 +16,4 @@ note_neighbors-requires c = let r = c.requires.counts_ready in
 pub returns : goal.returns
 returns c = let r = c.requires.counts_ready in
     let a = c.requires.item_in_bounds in
-    let n = c.requires.fact in record { colors = refl; ready = take_ready _ _ _ _ _ _ r a.0 a.1 n _ _ _ _ (used_known c.args.items _ _ r.size n _ _ _ (zero_at 4096) (omega arith) c.mark_used.ensures.marks) c.note_neighbors.ensures.noted c.note_neighbors.auto.saturations c.note_neighbors.auto.waiting }
+    let n = c.requires.fact in record { colors = refl; ready = take_ready _ _ _ _ _ _ r a.0 a.1 n _ _ _ _ (used_known_items c.args.items _ _ r.size n _ _ _ (zero_at 4096) (omega arith) c.mark_used.ensures.marks) c.note_neighbors.ensures.noted c.note_neighbors.auto.saturations c.note_neighbors.auto.waiting }
