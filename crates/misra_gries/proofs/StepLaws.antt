@@ -2,7 +2,7 @@
 use Prim.Native.Nat.{ℕ, suc, ◌<◌, ◌+◌, ◌-◌, ◌*◌, ◌≤◌}
 use mathlib.Core.List.{List, [], ◌∷◌, ◌++◌}
 use native.Mathlib.Omega.{arith}
-use mathlib.Core.Path.{◌≡◌, refl, sym, ap, ◌∙◌}
+use mathlib.Core.Path.{◌≡◌, refl, sym, ap, subst, ◌∙◌}
 use mathlib.Core.Bool.{Bool, true}
 use native.Mathlib.Nat.{min-le_left}
 use lib.ListN.{length, get_or, take, drop, length-append, length-take}
@@ -34,27 +34,44 @@ use Rattle.fan.proofs.TablePlacesLaws.{table_places_lem, places_taken}
 
 -- ---- the path exchanged
 
--- The path from u along d, c stands in the first len places of an array.
-pub record Followed (ends T : List ℕ) (n u d c : ℕ) (edges : List ℕ) (len : ℕ) : Type 0 where
+-- The path from u along d, c stands in the first len places of an array of `size` places.
+pub record Followed (ends T : List ℕ) (n u d c size : ℕ) (edges : List ℕ) (len : ℕ) : Type 0 where
   pub path : take len edges ≡ table_path ends T n u d c
+  pub inside : len ≤ length edges
   pub filled : len ≡ length (take len edges)
+  pub short : len ≤ size
 
 -- The first n places of the array A were lent to `follow`, and hold L afterwards.
-pub path_followed : (ends T : List ℕ) (n u d c : ℕ) (A L : List ℕ) (len : ℕ) → n ≤ length A → length L ≡ length (take n A)
+pub path_lent : (ends T : List ℕ) (n u d c : ℕ) (A L : List ℕ) (len : ℕ) → n ≤ length A → length L ≡ length (take n A)
     → (take len L ≡ table_path ends T (length (take n A)) u d c) × ((len ≡ length (table_path ends T (length (take n A)) u d c)) × (len ≤ length (take n A)))
-    → Followed ends T n u d c (L ++ drop n A) len
-path_followed ends T n u d c A L len room kept e = record {
-  path = take-append-le len L (drop n A) (omega (arith, kept, e.1.1)) ∙ (e.0 ∙ ap (λ (i : ℕ). table_path ends T i u d c) (length-take-le n A room));
-  filled = sym (length-take-le len (L ++ drop n A) (rw (length-append L (drop n A)) (omega (arith, kept, e.1.1))));
-}
+    → Followed ends T n u d c (length A) (L ++ drop n A) len
+path_lent ends T n u d c A L len room kept e =
+    let lent = length-take-le n A room in
+    let inside : len ≤ length (L ++ drop n A) = rw (length-append L (drop n A)) (omega (arith, kept, e.1.1)) in
+    record {
+      path = take-append-le len L (drop n A) (omega (arith, kept, e.1.1)) ∙ (e.0 ∙ ap (λ (i : ℕ). table_path ends T i u d c) lent);
+      inside = inside;
+      filled = sym (length-take-le len (L ++ drop n A) inside);
+      short = omega (arith, lent, e.1.1, room);
+    }
+
+-- The same of an array of 512 places.
+pub path_followed : (ends T : List ℕ) (n u d c : ℕ) (A L : List ℕ) (len : ℕ) → n ≤ length A → length A ≡ 512 → length L ≡ length (take n A)
+    → (take len L ≡ table_path ends T (length (take n A)) u d c) × ((len ≡ length (table_path ends T (length (take n A)) u d c)) × (len ≤ length (take n A)))
+    → Followed ends T n u d c 512 (L ++ drop n A) len
+path_followed ends T n u d c A L len room size kept e = subst (λ (s : ℕ). Followed ends T n u d c s (L ++ drop n A) len) size (path_lent ends T n u d c A L len room kept e)
 
 -- An array of `size` places was lent, and holds L afterwards: the path ended before its last place.
 pub path_few : (ends T : List ℕ) (n u d c size : ℕ) (L : List ℕ) (len : ℕ) → size ≤ n → (len ≡ size → ⊥) → length L ≡ size
-    → (take len L ≡ table_path ends T size u d c) × ((len ≡ length (table_path ends T size u d c)) × (len ≤ size)) → Followed ends T n u d c L len
-path_few ends T n u d c size L len room ended kept e = record {
-  path = e.0 ∙ sym (path_ended ends T size n u d c (omega (arith, e.1.0, e.1.1, ended)) room);
-  filled = sym (length-take-le len L (omega (arith, e.1.1)));
-}
+    → (take len L ≡ table_path ends T size u d c) × ((len ≡ length (table_path ends T size u d c)) × (len ≤ size)) → Followed ends T n u d c size L len
+path_few ends T n u d c size L len room ended kept e =
+    let inside : len ≤ length L = omega (arith, e.1.1) in
+    record {
+      path = e.0 ∙ sym (path_ended ends T size n u d c (omega (arith, e.1.0, e.1.1, ended)) room);
+      inside = inside;
+      filled = sym (length-take-le len L inside);
+      short = e.1.1;
+    }
 
 module _ (ends l T : List ℕ) (n u c d : ℕ) (E : Exchanging ends n l T u c d) where
   right_path : table_path ends T n u d c ≡ path ends (edge_count ends) n l u d c

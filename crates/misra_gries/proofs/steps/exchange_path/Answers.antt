@@ -1,5 +1,6 @@
 -- `exchange_path` meets its contract: where d is free there is no path, and a path that ends in the short array is the whole path.
 use Rattle.std.proofs.Common.{arith}
+use mathlib.Core.Path.{refl}
 use lib.ListN.{replicate}
 use Rattle.recolor.proofs.TablePathLaws.{path_written}
 use Rattle.misra_gries.proofs.StepLaws.{path_empty, path_followed, path_few, path_exchanged}
@@ -15,5 +16,5 @@ returns-then-len-lt-FEW c =
 
 pub returns : goal.returns
 returns c =
-    let f = path_followed _ _ _ _ _ _ (replicate 512 0) _ _ c.requires.nodes c.follow-len-2.auto.out (path_written _ _ _ _ _ _ _ _ _ (c.follow-len-2.ensures.answer, c.follow-len-2.ensures.out)) in
+    let f = path_followed _ _ _ _ _ _ (replicate 512 0) _ _ c.requires.nodes refl c.follow-len-2.auto.out (path_written _ _ _ _ _ _ _ _ _ (c.follow-len-2.ensures.answer, c.follow-len-2.ensures.out)) in
     record { exchanged = path_exchanged _ _ _ _ _ _ _ c.requires _ _ _ _ f.path f.filled c.exchange_edges-2.ensures.exchanged }
