@@ -65,6 +65,10 @@ module _ (n : ℕ) (ends : List ℕ) (items presets colors : ℕ) where
         let t : wrong ≡ false = simp (eq-eqb colors items k, eq-eqb presets items h) in
         rw (q.1, q.2) (answered_accepted (item_checks n ends items presets colors) (n, edge_count ends) (after_graph_lem ∙ (first_passes wrong 5 [] t ∙ all_passed)))
 
+-- Presets of a wrong length are refused where the graph passes its checks.
+pub presets_refused : (n : ℕ) (ends : List ℕ) (items presets colors : ℕ) (g : Graph) → report_of_checked (Ok g) ≡ check_graph n ends → colors ≡ items → (presets ≡ items → ⊥) → refused 5 ≡ check_items n ends items presets colors
+presets_refused n ends items presets colors g e = presets_wrong n ends items presets colors (Ok g) g e refl
+
 -- What the checks leave.
 item_checks_passed : (n : ℕ) (ends : List ℕ) (items presets colors : ℕ) → first_refusal (item_checks n ends items presets colors) ≡ none → Passed n ends × (presets ≡ items) × (colors ≡ items)
 unfolding item_checks
