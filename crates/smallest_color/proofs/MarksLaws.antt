@@ -95,10 +95,16 @@ smallest_enough : (few size : ℕ) (cs : List ℕ) (c : ℕ) → length cs < few
 smallest_enough few size cs c l h e = e ∙ smallest_more few size cs 0 (omega arith) h (λ b k. absurd (not-suc-le-zero k))
 
 -- As the code finds it: the first place without a mark is the smallest colour that is not used, of as many as there are marks.
+pub first_unmarked_smallest : (marks : List Bool) (cs : List ℕ) (c : ℕ) → Marked marks cs → FirstUnmarked marks c → c ≡ smallest_from (length marks) cs 0
+first_unmarked_smallest marks cs c m f =
+    smallest_from_lem (length marks) cs 0 c (omega arith) (omega (arith, f.inside)) (λ b h k. m.unmarked b (omega (arith, f.inside)) (f.before b k)) (λ h p. true≢false (sym (m.marked c (omega arith) p) ∙ f.here (omega arith)))
+
 pub smallest_of_marks : (marks : List Bool) (cs : List ℕ) (size c : ℕ) → Marked marks cs → length marks ≡ length (replicate size false) → FirstUnmarked marks c → c ≡ smallest_from size cs 0
-smallest_of_marks marks cs size c m l f =
-    let count : length marks ≡ size = l ∙ length-replicate size false in
-    smallest_from_lem size cs 0 c (omega arith) (omega (arith, f.inside)) (λ b h k. m.unmarked b (omega (arith, f.inside)) (f.before b k)) (λ h p. true≢false (sym (m.marked c (omega arith) p) ∙ f.here (omega arith)))
+smallest_of_marks marks cs size c m l f = rw (← length-replicate {A = Bool} size false, ← l) (first_unmarked_smallest marks cs c m f)
+
+-- At a node: as many places are marked as there are marks.
+pub smallest_found : (ends colors : List ℕ) (v : ℕ) (ks : List ℕ) (marks : List Bool) (size c : ℕ) → Marked marks (far_colors ends colors v ks) → length marks ≡ size → FirstUnmarked marks c → c ≡ smallest_from size (far_colors ends colors v ks) 0
+smallest_found ends colors v ks marks size c m l f = rw (← l) (first_unmarked_smallest marks (far_colors ends colors v ks) c m f)
 
 -- At a node with few edges few marks find the same.
 pub node_few : (ends colors : List ℕ) (v : ℕ) (ks es : List ℕ) (c : ℕ) → es ≡ ks → length es < 64 → c ≡ smallest_from 64 (far_colors ends colors v ks) 0 → c ≡ smallest_from 512 (far_colors ends colors v ks) 0
@@ -171,6 +177,13 @@ pub smallest_at_ends : (ends starts entries colors : List ℕ) (k a b : ℕ) (es
     → c ≡ smallest_from 4096 (colors_of colors (stretch starts entries (first_end ends k)) ++ colors_of colors (stretch starts entries (second_end ends k))) 0
 unfolding first_end second_end
 smallest_at_ends ends starts entries colors k a b es fs c u v p q e = rw (← u, ← v, ← p, ← q) e
+
+-- The same of marks.
+pub smallest_edge_found : (ends starts entries colors : List ℕ) (k a b : ℕ) (es fs : List ℕ) (marks : List Bool) (size c : ℕ) → a ≡ get_or ends (2 * k) 0 → b ≡ get_or ends (2 * k + 1) 0 → es ≡ stretch starts entries a → fs ≡ stretch starts entries b
+    → Marked marks (colors_of colors es ++ colors_of colors fs) → length marks ≡ size → FirstUnmarked marks c
+    → c ≡ smallest_from size (colors_of colors (stretch starts entries (first_end ends k)) ++ colors_of colors (stretch starts entries (second_end ends k))) 0
+unfolding first_end second_end
+smallest_edge_found ends starts entries colors k a b es fs marks size c u v p q m l f = rw (← u, ← v, ← p, ← q, ← l) (first_unmarked_smallest marks (colors_of colors es ++ colors_of colors fs) c m f)
 
 -- ---- at an edge of a graph that passed
 
