@@ -5,8 +5,8 @@ use mathlib.Core.List.{List, [], ◌∷◌, ◌++◌, reverse, map, append_assoc
 use mathlib.Core.Path.{◌≡◌, refl, sym, ap, subst, ◌∙◌}
 use native.Mathlib.Omega.{arith}
 use Rattle.std.proofs.lemmas.List.{reverse-append}
-use lib.ListN.{length, get_or, take}
-use lib.Seq.{take_all}
+use lib.ListN.{length, get_or, drop, take}
+use lib.Seq.{drop-length, take_all}
 use native.Mathlib.Nat.{not-suc-le-zero}
 use native.Mathlib.Numerals.{add-one}
 use lib.Dec.{eqb, ltb}
@@ -17,6 +17,7 @@ use Rattle.graph.specs.Edges.{edge_count, far_end, first_end, second_end, is_loo
 use Rattle.items.specs.declared.Kind.TheVariants.{Nodes, Edges}
 use Rattle.items.specs.Items.{neighbors_of}
 use Rattle.greedy.specs.IndependentSet.{Lists, put_off, put_off_all}
+use Rattle.independent_set.specs.Listing.{ListsHeld}
 use Rattle.lists.specs.Member.{Mem}
 use Rattle.lists.proofs.MemberLaws.{mem_map, mem_get_or}
 use Rattle.graph.proofs.CheckLaws.{passed_inside}
@@ -50,6 +51,12 @@ pub none_left : (s t : Lists) (left : List ℕ) → length left ≡ 0 → put_of
 unfolding put_off_all
 none_left s t [] z e = e
 none_left s t (x ∷ left) z e = absurd (omega arith)
+
+-- The edges of a part go last first: at the start none has been put off.
+module _ (m : ℕ) (s : Lists) (listed place next : List ℕ) (len end : ℕ) where
+  pub part_start_lem : (edges : List ℕ) → ListsHeld m listed place next len end s → ListsHeld m listed place next len end (put_off_all s (reverse (drop (length edges) edges)))
+  unfolding put_off_all
+  part_start_lem edges h = rw (drop-length edges) h
 
 -- ---- the neighbours of a node
 
