@@ -210,6 +210,10 @@ module _ (before : List ℕ) (at a b c d : ℕ) (r : Room at (line a b c d)) whe
 -- ---- the two texts
 
 module _ (before : List ℕ) (number : ℕ) (r : Room 0 (refused_text number)) where
+  pub refused_word_lem : Room 0 refused_word
+  unfolding refused_text
+  refused_word_lem = room_first 0 refused_word (followed number line_feed) r
+
   module _ (text₁ : List ℕ) (at₁ : ℕ) (p₁ : Put before 0 refused_word text₁ at₁) where
     pub refused_number : Room at₁ (followed number line_feed)
     unfolding refused_text
@@ -225,6 +229,10 @@ module _ (before : List ℕ) (days : ℕ) (ends colors : List ℕ) (r : Room 0 (
 
   abbrev L : List ℕ
   L = edge_lines ends colors (edge_count ends)
+
+  pub days_word_lem : Room 0 days_word
+  unfolding days_text
+  days_word_lem = room_first 0 days_word N (first_two before 0 days_word N L r)
 
   module _ (text₁ : List ℕ) (at₁ : ℕ) (p₁ : Put before 0 days_word text₁ at₁) where
     pub days_number : Room at₁ N
