@@ -128,9 +128,9 @@ pub byte_named : (byte : ℕ) (r : Result Method Refusal) (o : Answer Method) �
 byte_named byte (Ok x) o named e way q = let z : x ≡ way = cc in named ∙ ap byte_of z
 byte_named byte (Err x) o named e way q = cc
 
-pub byte_above : (byte : ℕ) (r : Result Method Refusal) (o : Answer Method) → NamedBy byte r → o ≡ result_ok r → o ≡ None → 3 < byte
-byte_above byte (Ok x) o named e q = cc
-byte_above byte (Err x) o named e q = named.1
+pub unnamed_above : (byte : ℕ) (r : Result Method Refusal) (o : Answer Method) → NamedBy byte r → o ≡ result_ok r → o ≡ None → 3 < byte
+unnamed_above byte (Ok x) o named e q = cc
+unnamed_above byte (Err x) o named e q = named.1
 
 -- ---- after the colours
 
@@ -191,6 +191,11 @@ module _ (bytes : List ℕ) (at n m : ℕ) where
             let is = simp (eq-eqb p.tag 4 t, eq-eqb (length byte) 1 (field_size bytes p (inside p q) ∙ k), lt-ltb (get_or byte 0 0) 4 four) at whole in
             summary_is _ (with_method (get_or byte 0 0) file) (n, m, 15, byte_of way) is
             (ap (λ (u : Summary). (u.0, u.1, u.2 + 8, get_or byte 0 0)) s ∙ ap (λ (u : ℕ). (n, m, 15, u)) (x ∙ b))
+
+-- The same for each file.
+pub byte_above : (bytes : List ℕ) (at : ℕ) (r : Answer FieldPlace) → shown_field bytes r ≡ first_field (drop at bytes) → (p : FieldPlace) → r ≡ Some p → FieldInside bytes r
+    → p.length ≡ 1 → 3 < get_or bytes p.start 0 → (file : File) → none ≡ summary_of (bind (fields (drop at bytes)) (after_colors file))
+byte_above bytes at r e p q inside k h file = no_summary _ (wrong_first bytes at r e (after_colors file) p q (λ fs. not_method file (field_there bytes p) fs (above bytes at 0 0 r e p q inside k h)))
 
 -- ---- after the ends
 

@@ -1,7 +1,7 @@
 -- `after_colors` meets its contract: one law for each answer.
 use native.Mathlib.Omega.{arith}
 use Rattle.std.specs.Prelude.{Some}
-use Rattle.file_fields.proofs.LayoutLaws.{colors_end, method_cut, method_tag, method_length, method_above, method_more, method_last, byte_named, byte_above}
+use Rattle.file_fields.proofs.LayoutLaws.{colors_end, method_cut, method_tag, method_length, method_above, method_more, method_last, byte_named, unnamed_above}
 use Rattle.file_fields.proofs.layout.after_colors.Goals as goal
 
 pub returns-then-at-bytes : goal.returns-then-at-bytes
@@ -21,7 +21,7 @@ returns-then-field-bytes c = let s = c.args in record { answer = method_more _ s
 
 pub returns-in_err-method : goal.returns-in_err-method
 returns-in_err-method c = let s = c.args in
-    let above = byte_above _ _ _ c.try_from.ensures c.ok.ensures.value c.in_err-method.was in
+    let above = unnamed_above _ _ _ c.try_from.ensures c.ok.ensures.value c.in_err-method.was in
     record { answer = rw c.from_residual-in_err-method.ensures (method_above _ s.at s.nodes s.edges _ c.field_at.ensures.answer _ c.in_ok-field.was c.field_at.ensures.inside (omega arith) above) }
 
 pub returns : goal.returns
