@@ -1,7 +1,7 @@
 -- Components as trees: each node hangs under a lower one of its component, or is the lowest itself. What the functions over them do, and the laws that their proofs cite.
 use Prim.Native.Nat.{ℕ, zero, suc, min, max, ◌+◌, ◌-◌, ◌≤◌, ◌<◌}
 use mathlib.Core.Path.{◌≡◌, refl, sym, ap, ◌∙◌}
-use mathlib.Core.Logic.{inl, inr, ◌≢◌}
+use mathlib.Core.Logic.{◌⊎◌, inl, inr, ◌≢◌}
 use mathlib.Core.List.{List}
 use mathlib.Core.Bool.{Bool, true, false, not, ◌&&◌, xor, beq, cond, false≢true, true≢false}
 use native.Mathlib.Numerals.{add-one}
@@ -58,11 +58,12 @@ xor_assoc false false false = refl
 -- On the way up from v: x is in v's component, and on the other side than v where `odd` says so.
 pub record Climbs (up₀ : List ℕ) (flips₀ : List Bool) (v : ℕ) (up : List ℕ) (flips : List Bool) (x : ℕ) (odd : Bool) : Type 0 where
   pub forest : Forest up flips
+  pub size : length up ≡ length up₀
   pub inside : x < length up
   pub right : (low : ℕ → ℕ) (side : ℕ → Bool) → Holds low side up₀ flips₀ → Holds low side up flips × (low x ≡ low v) × (side v ≡ xor odd (side x))
 
 pub climb_none : (up : List ℕ) (flips : List Bool) (v : ℕ) → Forest up flips → v < length up → Climbs up flips v up flips v false
-climb_none up flips v forest h = record { forest = forest; inside = h; right = λ low side holds. (holds, refl, sym (false_xor (side v))) }
+climb_none up flips v forest h = record { forest = forest; size = refl; inside = h; right = λ low side holds. (holds, refl, sym (false_xor (side v))) }
 
 module _ (up₀ : List ℕ) (flips₀ : List Bool) (v : ℕ) (up : List ℕ) (flips : List Bool) (x : ℕ) (odd : Bool) (climbs : Climbs up₀ flips₀ v up flips x odd) where
   -- The node above x, and the one above that.
@@ -87,6 +88,7 @@ module _ (up₀ : List ℕ) (flips₀ : List Bool) (v : ℕ) (up : List ℕ) (fl
       let lt = above_lower n in
       record {
         forest = hung_forest up flips climbs.forest x climbs.inside above flip (omega arith);
+        size = length-set up x above ∙ climbs.size;
         inside = rw (length-set up x above) (omega (arith, climbs.inside));
         right = λ low side holds.
             let r = climbs.right low side holds in
@@ -237,26 +239,31 @@ module _ (up₀ : List ℕ) (flips₀ : List Bool) (first second : ℕ) (a b : R
   join_inside e = record { taken = λ ends k p q joined fine. let r = both ends k p q joined in roots_meet ends k up flips r.0 fine a b r.1 r.2 e }
 
   module _ (size : length up ≡ length up₁) (high : ℕ) where
-    pub join_room : high ≡ max a.node.0 b.node.0 → high < length up
-    join_room e = omega (arith, e, finds.inside, finds'.inside)
+    pub join_room : (high ≡ a.node.0) ⊎ (high ≡ b.node.0) → high < length up
+    join_room (inl e) = omega (arith, finds.inside)
+    join_room (inr e) = omega (arith, finds'.inside)
 
-    pub join_apart : (low : ℕ) → (a.node.0 ≡ b.node.0 → ⊥) → low ≡ min a.node.0 b.node.0 → high ≡ max a.node.0 b.node.0 → Joins up₀ flips₀ first second (set up high low) (set flips high (beq a.odd b.odd)) true
-    join_apart low n l t = elim (dec_lt b.node.0 a.node.0) [
-      | yes h ↦
-          let p : low ≡ b.node.0 = omega arith in
-          let q : high ≡ a.node.0 = omega arith in
-          rw (p, q) (record {
-            taken = λ ends k x y joined fine.
-                let r = both ends k x y joined in hung_first ends k up flips r.0 fine a b r.1 r.2 h (omega (arith, finds.inside));
-          })
-      | no h ↦
-          let p : low ≡ a.node.0 = omega arith in
-          let q : high ≡ b.node.0 = omega arith in
-          rw (p, q) (record {
-            taken = λ ends k x y joined fine.
-                let r = both ends k x y joined in hung_second ends k up flips r.0 fine a b r.1 r.2 (omega arith) finds'.inside;
-          })
-    ]
+    pub join_apart : (low : ℕ) → (a.node.0 ≡ b.node.0 → ⊥)
+        → ((b.node.0 < a.node.0) × (low ≡ b.node.0) × (high ≡ a.node.0)) ⊎ ((a.node.0 ≤ b.node.0) × (low ≡ a.node.0) × (high ≡ b.node.0))
+        → Joins up₀ flips₀ first second (set up high low) (set flips high (beq a.odd b.odd)) true
+    join_apart low n (inl (h, l, t)) = rw (l, t) (record {
+      taken = λ ends k p q joined fine.
+          let r = both ends k p q joined in hung_first ends k up flips r.0 fine a b r.1 r.2 h (omega (arith, finds.inside));
+    })
+    join_apart low n (inr (h, l, t)) = rw (l, t) (record {
+      taken = λ ends k p q joined fine.
+          let r = both ends k p q joined in hung_second ends k up flips r.0 fine a b r.1 r.2 (omega arith) finds'.inside;
+    })
+
+    -- The same where the code has the higher as the greater of the two, and the lower as the lesser.
+    max_is : high ≡ max a.node.0 b.node.0 → (high ≡ a.node.0) ⊎ (high ≡ b.node.0)
+    max_is e = elim (dec_lt b.node.0 a.node.0) [ yes h ↦ inl (omega arith) | no h ↦ inr (omega arith) ]
+
+    pub join_room_max : high ≡ max a.node.0 b.node.0 → high < length up
+    join_room_max e = join_room (max_is e)
+
+    pub join_apart_max : (low : ℕ) → (a.node.0 ≡ b.node.0 → ⊥) → low ≡ min a.node.0 b.node.0 → high ≡ max a.node.0 b.node.0 → Joins up₀ flips₀ first second (set up high low) (set flips high (beq a.odd b.odd)) true
+    join_apart_max low n l t = join_apart low n (elim (dec_lt b.node.0 a.node.0) [ yes h ↦ inl (h, omega arith, omega arith) | no h ↦ inr (omega arith, omega arith, omega arith) ])
 
 -- ---- all edges
 
@@ -295,15 +302,17 @@ taken_all ends k m up flips p e joined = rw (← p) (record { answer = rw e; joi
 -- ---- the colours
 
 -- The first v of n nodes have the colours of their sides, whichever sides the trees hold.
-pub record Colored (n : ℕ) (up : List ℕ) (flips : List Bool) (colors : List ℕ) (v : ℕ) : Type 0 where
+pub record Colored (n : ℕ) (up : List ℕ) (flips : List Bool) (colors₀ : List ℕ) (colors : List ℕ) (v : ℕ) : Type 0 where
   pub forest : Forest up flips
   pub room : (n ≤ length up) × (n ≤ length colors)
+  pub size : length colors ≡ length colors₀
+  pub bound : v ≤ n
   pub two : (u : ℕ) → u < v → get_or colors u 0 ≤ 1
   pub right : (low : ℕ → ℕ) (odd : ℕ → Bool) → Holds low odd up flips → Sided odd v colors
 
-pub colored_none : (n : ℕ) (up : List ℕ) (flips : List Bool) (colors : List ℕ) → Forest up flips → (n ≤ length up) × (n ≤ length colors) → Colored n up flips colors 0
+pub colored_none : (n : ℕ) (up : List ℕ) (flips : List Bool) (colors : List ℕ) → Forest up flips → (n ≤ length up) × (n ≤ length colors) → Colored n up flips colors colors 0
 colored_none n up flips colors forest room =
-    record { forest = forest; room = room; two = λ u h. absurd (not-suc-le-zero h); right = λ low odd holds u h. absurd (not-suc-le-zero h) }
+    record { forest = forest; room = room; size = refl; bound = omega arith; two = λ u h. absurd (not-suc-le-zero h); right = λ low odd holds u h. absurd (not-suc-le-zero h) }
 
 hung_side : (flip odd : Bool) → cond flip (1 - cond odd 0 1) (cond odd 0 1) ≡ cond (xor flip odd) 0 1
 unfolding xor
@@ -312,17 +321,19 @@ hung_side true false = refl
 hung_side false true = refl
 hung_side false false = refl
 
-module _ (n : ℕ) (up : List ℕ) (flips : List Bool) (colors : List ℕ) (v : ℕ) (colored : Colored n up flips colors v) (more : v < n) where
+module _ (n : ℕ) (up : List ℕ) (flips : List Bool) (colors₀ : List ℕ) (colors : List ℕ) (v : ℕ) (colored : Colored n up flips colors₀ colors v) (more : v < n) where
   inside : v < length up
   inside = omega (arith, colored.room.0)
 
-  colored_more : (c : ℕ) (colors' : List ℕ) → colors' ≡ set colors v c → c ≤ 1 → ((low : ℕ → ℕ) (odd : ℕ → Bool) → Holds low odd up flips → c ≡ cond (odd v) 0 1) → Colored n up flips colors' (v + 1)
+  colored_more : (c : ℕ) (colors' : List ℕ) → colors' ≡ set colors v c → c ≤ 1 → ((low : ℕ → ℕ) (odd : ℕ → Bool) → Holds low odd up flips → c ≡ cond (odd v) 0 1) → Colored n up flips colors₀ colors' (v + 1)
   colored_more c colors' p b e =
       let same = length-set colors v c in
       let new = get_or-set_same colors v c 0 (omega (arith, colored.room.1)) in
       rw p (record {
         forest = colored.forest;
         room = (colored.room.0, rw same colored.room.1);
+        size = same ∙ colored.size;
+        bound = omega arith;
         two = λ u h. elim (dec_eq u v) [ inl q ↦ rw (q, new) b | inr o ↦ rw (get_or-set_other colors v u c 0 o) (colored.two u (omega arith)) ];
         right = λ low odd holds u h. elim (dec_eq u v) [
           | inl q ↦ rw (q, new) (e low odd holds)
@@ -330,7 +341,7 @@ module _ (n : ℕ) (up : List ℕ) (flips : List Bool) (colors : List ℕ) (v : 
         ];
       })
 
-  pub colored_root : (colors' : List ℕ) → get_or up v 0 ≡ v → colors' ≡ set colors v 1 → Colored n up flips colors' (v + 1)
+  pub colored_root : (colors' : List ℕ) → get_or up v 0 ≡ v → colors' ≡ set colors v 1 → Colored n up flips colors₀ colors' (v + 1)
   colored_root colors' p q = colored_more 1 colors' q (omega arith) (λ low odd holds. simp ((holds.hangs v inside).root p).1)
 
   module _ (hung : get_or up v 0 ≡ v → ⊥) where
@@ -343,7 +354,7 @@ module _ (n : ℕ) (up : List ℕ) (flips : List Bool) (colors : List ℕ) (v : 
     pub above_two : get_or colors (get_or up v 0) 0 ≤ 1
     above_two = colored.two (get_or up v 0) above_before
 
-    pub colored_hung : (c : ℕ) (colors' : List ℕ) → c ≡ cond (get_or flips v false) (1 - get_or colors (get_or up v 0) 0) (get_or colors (get_or up v 0) 0) → colors' ≡ set colors v c → Colored n up flips colors' (v + 1)
+    pub colored_hung : (c : ℕ) (colors' : List ℕ) → c ≡ cond (get_or flips v false) (1 - get_or colors (get_or up v 0) 0) (get_or colors (get_or up v 0) 0) → colors' ≡ set colors v c → Colored n up flips colors₀ colors' (v + 1)
     colored_hung c colors' p q = colored_more c colors' q
         (rw p (by-test (get_or flips v false) (λ t. simp t (omega arith)) (λ t. simp t above_two)))
         (λ low odd holds. p ∙ rw (colored.right low odd holds (get_or up v 0) above_before, (holds.hangs v inside).side) (hung_side (get_or flips v false) (odd (get_or up v 0))))
