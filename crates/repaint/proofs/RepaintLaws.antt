@@ -194,12 +194,21 @@ pub color_next : (ends : List ℕ) (s : State) (ks cs : List ℕ) (i : ℕ) → 
 unfolding all_colored
 color_next ends s ks cs i h b = rw (drop-cons ks i 0 h, drop-cons cs i 0 b, add-one i, all_colored)
 
+module _ (ends : List ℕ) (s : State) (ks cs : List ℕ) (i : ℕ) (r : State) (e : all_colored ends s (drop i ks) (drop i cs) ≡ r) where
+  pub color_end : length ks ≤ i → s ≡ r
+  unfolding all_colored
+  color_end h = rw (drop_of_length-le ks {i = i} h) at e
+
+  -- The colours are used up.
+  pub color_short : i < length ks → length cs ≤ i → s ≡ r
+  unfolding all_colored
+  color_short h b = rw (drop-cons ks i 0 h, drop_of_length-le cs {i = i} b) at e
+
 -- The edges or the colours are used up.
-pub color_end : (ends : List ℕ) (s : State) (ks cs : List ℕ) (i : ℕ) → i ≡ min (length ks) (length cs) → all_colored ends s (drop i ks) (drop i cs) ≡ s
-unfolding all_colored
-color_end ends s ks cs i e = elim (dec_lt i (length ks)) [
-  | yes h ↦ rw (drop-cons ks i 0 h, drop_of_length-le cs {i = i} (omega arith))
-  | no h ↦ rw (drop_of_length-le ks {i = i} (omega arith))
+pub color_used_up : (ends : List ℕ) (s : State) (ks cs : List ℕ) (i : ℕ) → i ≡ min (length ks) (length cs) → all_colored ends s (drop i ks) (drop i cs) ≡ s
+color_used_up ends s ks cs i e = elim (dec_lt i (length ks)) [
+  | yes h ↦ sym (color_short ends s ks cs i _ refl h (omega arith))
+  | no h ↦ sym (color_end ends s ks cs i _ refl (omega arith))
 ]
 
 -- ---- what each function leaves, by what its calls left
