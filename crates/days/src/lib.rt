@@ -61,7 +61,9 @@ fn count_marked(colors: &[u16], from: u16, marks: &mut [bool]) -> usize
     days
 }
 
-// The colours of one window: `length` of them, from `from` on. The fewer MARKS, the less there is to clear.
+// The colours of one window: `length` of them, from `from` on. The fewer MARKS, the less there is to clear. Not written in: where few marks do,
+// the many take no stack.
+#[inline(never)]
 fn count_window<const MARKS: usize>(colors: &[u16], from: u16, length: usize) -> usize
     requires { (length ≤ MARKS) × (MARKS ≤ 32768) }
     ensures answer { let colors = colors.entry.now in result ≡ different (within from (from + length) colors) }
