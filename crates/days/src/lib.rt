@@ -61,7 +61,7 @@ fn count_marked(colors: &[u16], from: u16, marks: &mut [bool]) -> usize
     days
 }
 
-// The colours of one window: `length` of them, from `from` on. The fewer MARKS, the less there is to clear. Not written in: where few marks do,
+// The colours of one window: `length` of them, from `from` on. The fewer MARKS, the less there is to clear. Not inlined: where few marks do,
 // the many take no stack.
 #[inline(never)]
 fn count_window<const MARKS: usize>(colors: &[u16], from: u16, length: usize) -> usize

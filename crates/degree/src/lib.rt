@@ -41,7 +41,7 @@ fn color_in_order(items: Items<'_>, order: &[u16], colors: &mut [u16])
 }
 
 // A graph that passed the checks, with a preset and a colour for each item, at most ITEMS of them with fewer than COUNTS neighbours each. The
-// answer is how many days the colours take. Not written in: the arrays of both kinds would stand on the stack at once.
+// answer is how many days the colours take. Not inlined: the arrays of both kinds would stand on the stack at once.
 #[inline(never)]
 fn color_checked<const ITEMS: usize, const COUNTS: usize>(
     kind: Kind,

@@ -1,5 +1,6 @@
 // A graph with its incidence table, in lent slices.
 ghost use Rattle.std.specs.Prelude.{◌≡◌, [], ◌≤◌, ◌<◌, length};
+ghost use Rattle.incidence.specs.Front.{incidence_front};
 
 use crate::incidence_front;
 use edge_walk::IncidenceTable;
@@ -12,6 +13,9 @@ pub fn incidence_table<'a>(
     starts: &'a mut [u16],
     entries: &'a mut [u16],
 ) -> IncidenceTable<'a>
+    ensures slices { let graph = graph.entry in let starts₀ = starts.old in let entries₀ = entries.old in
+        let front = incidence_front graph.nodes graph.ends.now starts₀ entries₀ in
+        (result.starts.now ≡ front.starts) × (result.entries.now ≡ front.entries) }
     ensures graph { let graph = graph.entry in let starts₀ = starts.old in let entries₀ = entries.old in
         (graph.nodes < length starts₀ → length graph.ends.now ≤ length entries₀
         → (result.nodes ≡ graph.nodes) × (result.ends ≡ graph.ends)) }
@@ -20,6 +24,7 @@ pub fn incidence_table<'a>(
     ensures few_entries { let graph = graph.entry in let entries₀ = entries.old in
         (length entries₀ < length graph.ends.now → (result.nodes ≡ 0) × (result.ends.now ≡ [])) }
 {
+    incidence_front(graph.nodes, graph.ends, starts, entries);
     if starts.len() <= graph.nodes || entries.len() < graph.ends.len() {
         return IncidenceTable {
             nodes: 0,
@@ -28,7 +33,6 @@ pub fn incidence_table<'a>(
             entries,
         };
     }
-    incidence_front(graph.nodes, graph.ends, starts, entries);
     IncidenceTable {
         nodes: graph.nodes,
         ends: graph.ends,

@@ -18,7 +18,7 @@ mod list;
 mod nodes;
 mod rounds;
 
-// The items of a graph that passed the checks, with a preset and a colour for each. Not written in: its arrays leave the stack before the days
+// The items of a graph that passed the checks, with a preset and a colour for each. Not inlined: its arrays leave the stack before the days
 // are counted.
 #[inline(never)]
 fn color_checked(kind: Kind, graph: CheckedGraph, presets: &[u16], colors: &mut [u16])

@@ -26,7 +26,7 @@ pub fn edge_of_node(node: NodeIndex) -> EdgeIndex
     EdgeIndex(node.0)
 }
 
-// The pairs, by the table. The list's length is known before anything is written, so a list that is too short stays as lent. Written in at
+// The pairs, by the table. The list's length is known before anything is written, so a list that is too short stays as lent. Inlined at
 // both sizes: where the compiler sees the table's arrays it need not ask at each edge whether they lie in the list.
 #[inline(always)]
 fn list_by_table(table: IncidenceTable<'_>, list: &mut [u16]) -> Result<usize, Refusal>
@@ -41,7 +41,7 @@ fn list_by_table(table: IncidenceTable<'_>, list: &mut [u16]) -> Result<usize, R
     Ok(total / 2)
 }
 
-// The same, with the table in arrays of these lengths. Not written in: a small graph's call takes the short arrays' stack alone.
+// The same, with the table in arrays of these lengths. Not inlined: a small graph's call takes the short arrays' stack alone.
 #[inline(never)]
 fn list_in<const STARTS: usize, const ENTRIES: usize>(
     graph: CheckedGraph<'_>,
